@@ -1,0 +1,14 @@
+pub mod BitLaws
+pub mod Blocks
+pub mod Bounds
+pub mod EveryDraft
+pub mod Exact
+pub mod Fields
+pub mod FileLaws
+pub mod Loops
+pub mod Names
+pub mod Params
+pub mod Rests
+pub mod RoundTrip
+pub mod Steps
+pub mod Whole

@@ -1,0 +1,7 @@
+use borrow.Author.Needs.{needs}
+use mathlib.Core.Path.{refl}
+use Rattle.draft.proofs.Steps.{runs-read}
+use Rattle.draft.proofs.reader.Reader.new.Needs as need
+
+pub returns : need.returns
+returns c = record { start = (refl, refl, refl); runs = runs-read }

@@ -1,0 +1,9 @@
+pub mod Bits
+pub mod Limits
+pub mod Faults
+pub mod Format
+pub mod File
+pub mod Drafts
+pub mod Records
+pub mod Reading
+pub mod Runs

@@ -1,0 +1,13 @@
+// The laws of files and drafts.
+ghost use Rattle.draft.specs.Drafts.{Every-draft-fits};
+ghost use Rattle.draft.specs.File.{Reads-what-is-written, Writes-what-is-read, One-file};
+
+// Files and drafts match both ways, and every draft has a file.
+pub fn files_and_drafts_match() -> u8
+    ensures read { λ _. ⌜ Reads-what-is-written ⌝ }
+    ensures write { λ _. ⌜ Writes-what-is-read ⌝ }
+    ensures one { λ _. ⌜ One-file ⌝ }
+    ensures every { λ _. ⌜ Every-draft-fits ⌝ }
+{
+    0
+}

@@ -1,0 +1,41 @@
+// What a checked drawing holds.
+use crate::drawing::Drawing;
+use blocks::Signature;
+use draft::Block;
+use draft::Draft;
+use values::ValueType;
+ghost use mathlib.Core.Path.{_≡_};
+ghost use Rattle.std.specs.Of.Vec.{vec-items};
+
+impl Drawing {
+    pub fn draft(&self) -> &Draft
+        ensures { λ r. ⌜ now r ≡ now (self .entry) .draft ⌝ }
+    {
+        &self.draft
+    }
+
+    pub fn columns(&self) -> &[ValueType]
+        ensures { λ r. ⌜ now r ≡ vec-items (now (self .entry) .draft .columns) ⌝ }
+    {
+        self.draft.columns()
+    }
+
+    pub fn blocks(&self) -> &[Block]
+        ensures { λ r. ⌜ now r ≡ vec-items (now (self .entry) .draft .blocks) ⌝ }
+    {
+        self.draft.blocks()
+    }
+
+    pub fn signatures(&self) -> &[Signature]
+        ensures { λ r. ⌜ now r ≡ vec-items (now (self .entry) .signatures) ⌝ }
+    {
+        self.signatures.as_slice()
+    }
+
+    // The blocks in the order in which they are worked.
+    pub fn order(&self) -> &[usize]
+        ensures { λ r. ⌜ now r ≡ vec-items (now (self .entry) .order) ⌝ }
+    {
+        self.order.as_slice()
+    }
+}

@@ -1,0 +1,4 @@
+pub mod Example
+pub mod Packing
+pub mod Puts
+pub mod Relaying

@@ -1,0 +1,4 @@
+pub mod Put
+pub mod Written
+pub mod Example
+pub mod Load

@@ -1,0 +1,15 @@
+-- What writing a draft leaves in the memory that it is given.
+use mathlib.Core.Path.{_≡_}
+use mathlib.Core.List.{List}
+use Prim.Native.Nat.{ℕ, _*_, _≤_, _<_}
+use lib.ListN.{length, take, drop}
+use Rattle.std.specs.declared.result.Result.{Result}
+use Rattle.std.specs.declared.result.Result.the-variants.{Ok, Err}
+use Rattle.faults.specs.declared.fault.Fault.{Fault}
+use Rattle.faults.specs.declared.fault.Fault.the-variants.{OutputShort}
+use Rattle.draft.specs.File.{DraftOf, draftFormat, FileOf}
+
+-- The memory before and after, and the answer: the file stands at the front and the bytes past it stay; or the memory is too short and nothing changes.
+abbrev pub Written : DraftOf → List ℕ → List ℕ → Result ℕ Fault → Type 0
+Written d before after (Ok n) = (8 * n ≡ draftFormat .size 0 d) × (n ≤ length before) × FileOf d (take n after) × (drop n after ≡ drop n before)
+Written d before after (Err e) = (e ≡ OutputShort) × (8 * length before < draftFormat .size 0 d) × (after ≡ before)

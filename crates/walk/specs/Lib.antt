@@ -1,0 +1,5 @@
+pub mod Cycle
+pub mod Walk
+pub mod Opening
+pub mod Outcome
+pub mod Laws
