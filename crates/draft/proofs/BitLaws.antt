@@ -1,20 +1,18 @@
 -- Laws of bit fields, over any width.
-use mathlib.Core.Path.{_≡_, refl, sym, ap, subst, _∙_}
+use mathlib.Core.Path.{_≡_, refl, sym, ap, _∙_}
 use mathlib.Core.List.{List, [], _∷_, _++_, append-nil, append-assoc}
-use Prim.Native.Nat.{ℕ, zero, suc, _+_, _-_, _*_, _/_, _%_, _^_, _<_, _≤_}
-use native.Mathlib.Nat.{pow-suc, add-suc, suc-add, add-zero}
-use native.Mathlib.Numerals.{one-add, add-one}
+use Prim.Native.Nat.{ℕ, zero, suc, _+_, _-_, _*_, _/_, _%_, _^_, _<_}
+use native.Mathlib.Nat.{pow-suc, add-zero}
+use native.Mathlib.Numerals.{one-add}
 use native.Mathlib.Omega.{arith}
 use lib.Bits.{bitAnd}
-use lib.ListN.{length, getD, take, drop, length-append}
-use Rattle.std.specs.Joined.{joined}
-use Rattle.std.specs.Vec.{Every as All}
+use lib.ListN.{length, getD, length-append}
 use Rattle.std.specs.shelf.Digits.{number, numberAfter, Under}
-use Rattle.std.proofs.shelf.Bits.{shr-shr, mod-below, and-mask}
+use Rattle.std.proofs.shelf.Bits.{shr-shr, and-mask}
 use Rattle.std.proofs.shelf.Digits.{number-push}
 use Rattle.std.proofs.shelf.Elements.{all-append, all-push}
 use Rattle.std.proofs.shelf.Lists.{getD-push, getD-append-left, getD-append-add}
-use Rattle.draft.specs.Bits.{field, bitsOf, valueAt}
+use Rattle.draft.specs.Bits.{field, bitsOf}
 
 pub length-field : (n v : ℕ) → length (field n v) ≡ n
 length-field zero v = refl

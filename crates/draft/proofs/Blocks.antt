@@ -1,18 +1,16 @@
 -- A block from its parts.
 use mathlib.Core.Path.{_≡_, refl, sym, ap, subst, _∙_}
-use mathlib.Core.List.{List, [], _∷_, _++_}
-use Prim.Native.Nat.{ℕ, zero, suc, _+_, _*_, _<_, _≤_}
+use mathlib.Core.List.{List, [], _∷_}
+use Prim.Native.Nat.{ℕ, zero, suc, _+_, _*_}
 use native.Mathlib.Nat.{add-assoc}
 use native.Mathlib.Omega.{arith}
-use lib.ListN.{length, getD, take, drop}
-use Rattle.std.specs.declared.result.Result.{Result}
-use Rattle.std.specs.declared.result.Result.the-variants.{Ok, Err}
-use Rattle.draft.specs.declared.fault.ReadFault.{ReadFault}
+use lib.ListN.{length, getD}
+use Rattle.std.specs.declared.result.Result.the-variants.{Ok}
 use Rattle.draft.specs.declared.source.Source.{Source}
 use Rattle.values.specs.declared.scalar.Value.{Value}
 use Rattle.values.specs.declared.scalar.ValueType.{ValueType}
 use Rattle.draft.specs.Format.{Format, bind, then, times, via, readAll, sizeAll}
-use Rattle.draft.specs.File.{BlockOf, blockHead, blockName, blockParams, blockRest, toBlock, fromBlock, blockFormat, sourceFormat, paramFormat, paddingFormat, nameByte, typeFormat, columnsFormat}
+use Rattle.draft.specs.File.{blockHead, blockName, blockParams, blockRest, toBlock, fromBlock, blockFormat, sourceFormat, paramFormat, paddingFormat, nameByte, typeFormat, columnsFormat}
 use Rattle.draft.proofs.Exact.{bind-ok}
 use Rattle.draft.proofs.Loops.{then-ok, via-ok}
 

@@ -1,21 +1,20 @@
 -- Every draft can be written.
-use mathlib.Core.Path.{_≡_, refl, sym, ap, subst, _∙_}
+use mathlib.Core.Path.{_≡_, refl, ap}
 use mathlib.Core.Bool.{true, _&&_}
 use mathlib.Core.List.{List, [], _∷_, map}
-use Prim.Native.Nat.{ℕ, _≤_, _<_}
+use Prim.Native.Nat.{_≤_}
 use native.Mathlib.Omega.{arith}
 use lib.Dec.{leb}
 use lib.ListN.{length}
 use borrow.Author.Tests.{le-leb}
-use Rattle.std.specs.Of.Vec.{vec-items, vec-len}
+use Rattle.std.specs.Of.Vec.{vec-items}
 use Rattle.std.specs.Vec.{Every as All}
 use Rattle.std.proofs.shelf.Lists.{length-map}
 use Rattle.values.specs.declared.scalar.ValueType.{ValueType}
 use Rattle.values.specs.declared.scalar.ValueType.the-variants.{Binary, Whole, Real}
 use Rattle.draft.specs.declared.draft.Block.{Block}
-use Rattle.draft.specs.declared.draft.Draft.{Draft}
-use Rattle.draft.specs.Drafts.{blockMeans, means, Every-draft-fits}
-use Rattle.draft.specs.File.{BlockOf, typeFormat, blockFormat, draftFormat, Writable}
+use Rattle.draft.specs.Drafts.{blockMeans, Every-draft-fits}
+use Rattle.draft.specs.File.{typeFormat, blockFormat}
 use Rattle.draft.proofs.Bounds.{Within, block-out}
 use Rattle.draft.proofs.FileLaws.{zeros-fit}
 

@@ -1,21 +1,19 @@
 -- What stands at a bit of a file, and the number in a field there.
 use mathlib.Core.Path.{_≡_, refl, sym, ap, subst, _∙_}
-use mathlib.Core.Bool.{Bool, true, false, cond}
+use mathlib.Core.Bool.{true, false, cond}
 use mathlib.Core.List.{List, [], _∷_, _++_}
-use Prim.Native.Nat.{ℕ, zero, suc, _+_, _-_, _*_, _^_, min, _<_, _≤_}
+use Prim.Native.Nat.{ℕ, suc, _+_, _-_, _*_, _^_, min, _<_, _≤_}
 use native.Mathlib.Omega.{arith}
 use lib.Dec.{leb}
 use lib.Pow.{pow-mono}
 use lib.ListN.{length, getD, take, drop, length-append, length-take, length-drop}
 use borrow.Author.Tests.{le-leb, lt-leb}
-use Rattle.std.specs.declared.result.Result.{Result}
 use Rattle.std.specs.declared.result.Result.the-variants.{Ok, Err}
 use Rattle.std.specs.shelf.Digits.{number, Under}
 use Rattle.std.proofs.shelf.Digits.{number-more, number-lt}
 use Rattle.std.proofs.shelf.Elements.{all-take, all-drop}
-use Rattle.std.proofs.shelf.Lists.{getD-drop, take-at, drop-at, take-take, drop-take, drop-drop, take-append-drop, length-take-le}
+use Rattle.std.proofs.shelf.Lists.{getD-drop, take-at, drop-at, take-take, take-append-le, drop-take, drop-drop, take-append-drop, length-take-le}
 use Rattle.std.proofs.shelf.Tests.{cond-true, cond-false}
-use Rattle.draft.specs.declared.fault.ReadFault.{ReadFault}
 use Rattle.draft.specs.declared.fault.ReadFault.the-variants.{CutShort}
 use Rattle.draft.specs.Bits.{field, valueAt}
 use Rattle.draft.specs.Format.{Stands, readField}
@@ -70,6 +68,29 @@ stands-within file p xs some h =
     let long : min (length xs) (length file - p) ≡ length xs =
     ap (min (length xs)) (sym (length-drop p file)) ∙ sym (length-take (length xs) (drop p file)) ∙ ap length h in
     omega arith
+
+pub stands-room : (file : List ℕ) (p : ℕ) (xs : List ℕ) → p ≤ length file → Stands file p xs → p + length xs ≤ length file
+stands-room file p [] h s = omega arith
+stands-room file p (x ∷ xs) h s = stands-within file p (x ∷ xs) (omega arith) s
+
+-- the front of what stands
+pub stands-none : (file : List ℕ) (p q : ℕ) (xs : List ℕ) → q ≡ p → Stands file p (take (q - p) xs)
+stands-none file p q xs e = let none : 0 ≡ q - p = omega arith in subst (λ n. Stands file p (take n xs)) none refl
+
+pub stands-front : (file : List ℕ) (p k : ℕ) (xs ys : List ℕ) → k ≤ length xs → Stands file p (take k xs) → Stands file p (take k (xs ++ ys))
+stands-front file p k xs ys h s = subst (Stands file p) (sym (take-append-le k xs ys h)) s
+
+take-past : (n : ℕ) (xs ys : List ℕ) → take (length xs + n) (xs ++ ys) ≡ xs ++ take n ys
+take-past n [] ys = let none : 0 + n ≡ n = omega arith in ap (λ k. take k ys) none
+take-past n (x ∷ xs) ys =
+    let one : suc (length xs) + n ≡ suc (length xs + n) = omega arith in
+    ap (λ k. take k (x ∷ xs ++ ys)) one ∙ ap (λ l. x ∷ l) (take-past n xs ys)
+
+pub stands-after : (file : List ℕ) (p q r : ℕ) (xs ys : List ℕ) → q ≡ p + length xs → q ≤ r → Stands file p xs → Stands file q (take (r - q) ys) → Stands file p (take (r - p) (xs ++ ys))
+stands-after file p q r xs ys e h s t =
+    let more : length xs + (r - q) ≡ r - p = omega arith in
+    let parts : xs ++ take (r - q) ys ≡ take (r - p) (xs ++ ys) = sym (take-past (r - q) xs ys) ∙ ap (λ n. take n (xs ++ ys)) more in
+    subst (Stands file p) parts (stands-both file p xs (take (r - q) ys) s (subst (λ n. Stands file n (take (r - q) ys)) e t))
 
 pub valueAt-field : (file : List ℕ) (p w v : ℕ) → v < 2 ^ w → Stands file p (field w v) → valueAt file p w ≡ v
 unfolding valueAt

@@ -8,7 +8,7 @@ use lib.ListN.{length, set, take, drop, replicate, length-set}
 use Rattle.std.specs.declared.result.Result.{Result}
 use Rattle.std.specs.declared.result.Result.the-variants.{Ok, Err}
 use Rattle.draft.specs.declared.fault.ReadFault.{ReadFault}
-use Rattle.std.proofs.shelf.Lists.{take-more-set, drop-set-lt, drop-replicate, take-append-drop, length-replicate, drop-drop}
+use Rattle.std.proofs.shelf.Lists.{take-more-set, drop-set-lt, drop-replicate, drop-drop}
 use Rattle.draft.specs.Format.{Format, bind, readAll, sizeAll, then, via, ReadsArray}
 use Rattle.draft.specs.File.{zeroBit, zerosFormat}
 
@@ -20,12 +20,6 @@ module _ {A : Type 0} (F : Format A) (file : List ℕ) where
   -- of the n values at p, m are left, at q, and xs are read
   abbrev pub Left : ℕ → ℕ → ℕ → ℕ → List A → Type 0
   Left n p m q xs = readAll F n file p ≡ bind (readAll F m file q) (λ ys. Ok (xs ++ ys))
-
-  pub left-all : (n p : ℕ) → Left n p n p []
-  left-all n p = same (readAll F n file p) where
-    same : (r : Result (List A) ReadFault) → r ≡ bind r (λ ys. Ok ys)
-    same (Ok xs) = refl
-    same (Err e) = refl
 
   pub left-more : (n p m q i : ℕ) (xs : List A) (x : A) → suc i ≡ m → Left n p m q xs → F .read file q ≡ Ok x → Left n p i (q + F .size q x) (xs ++ x ∷ [])
   left-more n p m q i xs x e h r =
@@ -71,16 +65,6 @@ module _ {A : Type 0} (F : Format A) (cap : ℕ) (d : A) (file : List ℕ) (n p 
     pub long : length out ≡ cap
     pub place : q ≡ p + sizeAll F p (take i out)
 
-  pub filled-none : Filled 0 (replicate cap d) p
-  filled-none = record {
-    read = subst (λ m. Left F file n p m p []) (whole n) (left-all F file n p);
-    rest = ap (λ m. replicate m d) (whole cap);
-    long = length-replicate cap d;
-    place = omega arith;
-  } where
-    whole : (m : ℕ) → m ≡ m - 0
-    whole m = omega arith
-
   pub filled-more : (i : ℕ) (out : List A) (q : ℕ) (x : A) → i < n → n ≤ cap → Filled i out q → F .read file q ≡ Ok x → Filled (i + 1) (set out i x) (q + F .size q x)
   filled-more i out q x lt le h r =
       let left : suc (n - (i + 1)) ≡ n - i = omega arith in
@@ -121,15 +105,5 @@ module _ {A B : Type 0} {file : List ℕ} {p : ℕ} where
   then-ok F G {a} h k =
       ap (λ r. bind r (λ y. bind (G y .read file (p + F .size p y)) (λ z. Ok (y, z)))) h ∙ ap (λ r. bind r (λ z. Ok (a, z))) k
 
-  pub then-first : (F : Format A) (G : A → Format B) {e : ReadFault} → F .read file p ≡ Err e → then F G .read file p ≡ Err e
-  then-first F G h = ap (λ r. bind r (λ y. bind (G y .read file (p + F .size p y)) (λ z. Ok (y, z)))) h
-
-  pub then-second : (F : Format A) (G : A → Format B) {a : A} {e : ReadFault} → F .read file p ≡ Ok a → G a .read file (p + F .size p a) ≡ Err e → then F G .read file p ≡ Err e
-  then-second F G {a} h k =
-      ap (λ r. bind r (λ y. bind (G y .read file (p + F .size p y)) (λ z. Ok (y, z)))) h ∙ ap (λ r. bind r (λ z. Ok (a, z))) k
-
   pub via-ok : (to : A → B) (from : B → A) (F : Format A) {a : A} → F .read file p ≡ Ok a → via to from F .read file p ≡ Ok (to a)
   via-ok to from F h = ap (λ r. bind r (λ a. Ok (to a))) h
-
-  pub via-fails : (to : A → B) (from : B → A) (F : Format A) {e : ReadFault} → F .read file p ≡ Err e → via to from F .read file p ≡ Err e
-  via-fails to from F h = ap (λ r. bind r (λ a. Ok (to a))) h

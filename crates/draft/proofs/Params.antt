@@ -1,18 +1,17 @@
 -- Parameters as values, and as their patterns.
 use mathlib.Core.Path.{_≡_, refl, sym, ap, _∙_}
 use mathlib.Core.Bool.{Bool, true, false, not, cond}
-use mathlib.Core.List.{List, [], _∷_, _++_, map}
-use Prim.Native.Nat.{ℕ, zero, suc, _+_, _/_, _%_, _<_}
+use mathlib.Core.List.{List, [], _∷_, map}
+use Prim.Native.Nat.{ℕ, zero, suc, _+_, _/_, _%_}
 use native.Mathlib.Omega.{arith}
 use lib.Dec.{leb, eqb}
-use lib.ListN.{length, take}
-use lib.Ieee.{binary32, ofBits, ofFields, odd, prec, low, top}
+use lib.ListN.{take}
+use lib.Ieee.{binary32, ofBits, ofFields, odd, top}
 use Rattle.std.specs.Floats.{finite as isFinite}
 use Rattle.std.specs.declared.result.Result.{Result}
 use Rattle.std.specs.declared.result.Result.the-variants.{Ok, Err}
 use Rattle.values.specs.declared.packed.Cell.{Cell}
 use Rattle.values.specs.declared.packed.Cell.the-variants as Cells
-use Rattle.values.specs.declared.scalar.Value.{Value}
 use Rattle.values.specs.Packed.{valueOf, cellOf}
 use Rattle.values.proofs.Patterns.{usual-back, finite-canonical}
 use Rattle.draft.specs.declared.fault.ReadFault.{ReadFault}

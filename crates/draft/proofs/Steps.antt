@@ -1,8 +1,8 @@
 -- The reader's steps, by what is left to read.
-use mathlib.Core.Path.{_≡_, refl, sym, ap, subst, _∙_}
+use mathlib.Core.Path.{_≡_, sym, ap, subst, _∙_}
 use mathlib.Core.List.{List, [], _∷_, _++_, append-nil, append-assoc}
-use mathlib.Core.Logic.{_⊎_, inl, inr}
-use Prim.Native.Nat.{ℕ, zero, suc, _+_, _-_, _≤_, _<_}
+use mathlib.Core.Logic.{inl, inr}
+use Prim.Native.Nat.{ℕ, _+_, _-_}
 use native.Mathlib.Omega.{arith}
 use Rattle.std.specs.Joined.{joined}
 use Rattle.std.specs.declared.option.Option.{Option}
@@ -19,9 +19,9 @@ use Rattle.draft.specs.declared.record.Stage.the-variants.{Start, Types, Block
 use Rattle.draft.specs.Bits.{bitsOf}
 use Rattle.draft.specs.Format.{bind}
 use Rattle.draft.specs.File.{BlockOf, DraftOf, readFile}
-use Rattle.draft.specs.Reading.{HandsOut, Refuses, farthest}
+use Rattle.draft.specs.Reading.{HandsOut, Refuses}
 use Rattle.draft.specs.Records.{blockOf, columnsOf}
-use Rattle.draft.specs.Runs.{columnsIn, blocksIn, gathered, Run, Runs-read-the-file, Fit}
+use Rattle.draft.specs.Runs.{columnsIn, blocksIn, Run, Runs-read-the-file, Tells-the-same-again, Fit}
 use Rattle.draft.proofs.Rests.{headerFrom, columnsFrom, blocksFrom, from-start, header-more, header-fails, columns-more, columns-fail, block-more, block-fails, blocks-end, blocks-over}
 use Rattle.draft.proofs.Whole.{block-exact}
 
@@ -73,6 +73,32 @@ run-rest file st p cs bs (r ∷ rs) end t =
 
 pub runs-read : Runs-read-the-file
 runs-read bytes rs end t = from-start bytes ∙ run-rest (bitsOf bytes) Start 0 [] [] rs end t
+
+-- a fault and a value are not read at one place
+never : {A : Type 0} (r : Result A ReadFault) (a : A) (e : ReadFault) → r ≡ Ok a → r ≡ Err e → ⊥
+never r a e h k = let z : _≡_ {A = ℕ} 0 1 = cc in omega arith
+
+hands-nothing : (file : List ℕ) (st : Stage) (p : ℕ) (e : ReadFault) (o : Option Record) (st′ : Stage) (q : ℕ) → Refuses file st p e → HandsOut file st p o st′ q → ⊥
+hands-nothing file Start p e (Some (HeaderRecord h)) st′ q r t = never _ h e (t .0) r
+hands-nothing file Start p e (Some (Columns c)) st′ q r t = t
+hands-nothing file Start p e (Some (Block b)) st′ q r t = t
+hands-nothing file Start p e None st′ q r t = t
+hands-nothing file (Types h) p e (Some (Columns c)) st′ q r t = never _ (columnsOf c) e (t .0) r
+hands-nothing file (Types h) p e (Some (HeaderRecord g)) st′ q r t = t
+hands-nothing file (Types h) p e (Some (Block b)) st′ q r t = t
+hands-nothing file (Types h) p e None st′ q r t = t
+hands-nothing file (Blocks n) p e (Some (HeaderRecord g)) st′ q r t = t
+hands-nothing file (Blocks n) p e (Some (Columns c)) st′ q r t = t
+hands-nothing file (Blocks n) p e (Some (Block b)) st′ q (inl r) t = never _ (blockOf b) e (t .1) (r .1)
+hands-nothing file (Blocks n) p e (Some (Block b)) st′ q (inr r) t = omega (arith, r .0, t .0)
+hands-nothing file (Blocks n) p e None st′ q (inl r) t = omega (arith, r .0, t .0)
+hands-nothing file (Blocks n) p e None st′ q (inr r) t = omega (arith, r .1, t .1)
+
+pub tells-again : Tells-the-same-again
+tells-again file st p e r = (
+  λ d k. let a = rest-fails file p [] [] st e r in let b = rest-fails file p [] [] st d k in cc,
+  λ o st′ q. hands-nothing file st p e o st′ q r,
+)
 
 pub fit : (file : List ℕ) (st : Stage) (p : ℕ) (r : Record) (st′ : Stage) (q : ℕ) → Under 2 file → HandsOut file st p (Some r) st′ q → Fit r
 fit file Start p (HeaderRecord h) st′ q u t = tt

@@ -1,5 +1,4 @@
 -- Blocks and drafts are read exactly where their bits stand.
-use mathlib.Core.Path.{_≡_}
 use Rattle.draft.specs.File.{blockFormat, draftFormat, sourceFormat, paramFormat, nameByte}
 use Rattle.draft.proofs.Exact.{Exact, then-exact, times-exact, via-exact}
 use Rattle.draft.proofs.Params.{param-exact}

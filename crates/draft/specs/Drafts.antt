@@ -11,7 +11,8 @@ use Rattle.draft.specs.declared.draft.Draft.{Draft}
 use Rattle.std.specs.declared.result.Result.the-variants.{Err}
 use Rattle.draft.specs.declared.fault.ReadError.{ReadError}
 use Rattle.draft.specs.declared.fault.ReadError.the-variants.{Fault, NoMemory}
-use Rattle.draft.specs.File.{BlockOf, DraftOf, readFile, Writable}
+use Rattle.draft.specs.File.{BlockOf, DraftOf, readFile, FileOf, Writable}
+use Rattle.draft.specs.Refused.{FirstFault}
 
 abbrev pub blockMeans : Block → BlockOf
 blockMeans b = record { kind = b .kind; sources = vec-items (b .sources); params = vec-items (b .params); name = vec-items (b .name) }
@@ -23,6 +24,15 @@ means d = record { columns = vec-items (d .columns); blocks = map blockMeans (ve
 abbrev pub Unread : List ℕ → ReadError → Type 0
 Unread bytes (Fault e) = readFile bytes ≡ Err e
 Unread bytes NoMemory = Unit {0}
+
+-- the draft is the one that the bytes are the file of
+abbrev pub TheDraft : List ℕ → DraftOf → Type 0
+TheDraft bytes d = FileOf d bytes × ((x : DraftOf) → Writable x → FileOf x bytes → x ≡ d)
+
+-- the bytes are no draft's file, by the first fault; memory may be wanting at any file
+abbrev pub NoDraft : List ℕ → ReadError → Type 0
+NoDraft bytes (Fault e) = FirstFault bytes e
+NoDraft bytes NoMemory = Unit {0}
 
 -- every draft that exists can be written
 abbrev pub Every-draft-fits : Type 0

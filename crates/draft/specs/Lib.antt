@@ -3,6 +3,7 @@ pub mod Limits
 pub mod Faults
 pub mod Format
 pub mod File
+pub mod Refused
 pub mod Drafts
 pub mod Records
 pub mod Reading

@@ -3,6 +3,7 @@ use mathlib.Core.Path.{_≡_}
 use mathlib.Core.List.{List, [], _∷_}
 use Prim.Native.Nat.{ℕ, _≤_}
 use Rattle.std.specs.Joined.{joined}
+use Rattle.std.specs.declared.option.Option.{Option}
 use Rattle.std.specs.declared.option.Option.the-variants.{Some, None}
 use Rattle.std.specs.declared.result.Result.{Result}
 use Rattle.std.specs.declared.result.Result.the-variants.{Ok, Err}
@@ -41,6 +42,10 @@ Run file st p (r ∷ rs) end = (st′ : Stage) × (q : ℕ) × HandsOut file st 
 -- the records of a run are those of the draft, and its refusal is that of the file
 abbrev pub Runs-read-the-file : Type 0
 Runs-read-the-file = (bytes : List ℕ) (rs : List Record) (end : Result (Unit {0}) ReadFault) → Run (bitsOf bytes) Start 0 rs end → readFile bytes ≡ bind end (λ _. Ok (gathered rs))
+
+-- Where the reader refuses it hands out nothing and has one fault to tell: asked again it tells it again, since a refusal leaves it where it stood.
+abbrev pub Tells-the-same-again : Type 0
+Tells-the-same-again = (file : List ℕ) (st : Stage) (p : ℕ) (e : ReadFault) → Refuses file st p e → ((d : ReadFault) → Refuses file st p d → d ≡ e) × ((o : Option Record) (st′ : Stage) (q : ℕ) → HandsOut file st p o st′ q → ⊥)
 
 -- a record that a block or columns can be made of
 abbrev pub Fit : Record → Type 0

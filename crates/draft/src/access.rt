@@ -2,7 +2,7 @@
 ghost use mathlib.Core.Path.{_≡_};
 ghost use Rattle.std.specs.Of.Vec.{vec-items};
 ghost use Rattle.std.specs.Vec.{made};
-ghost use Rattle.draft.specs.Drafts.{means, built-in, Every-draft-fits};
+ghost use Rattle.draft.specs.Drafts.{means, built-in};
 use crate::draft::Block;
 use crate::draft::Draft;
 use crate::source::Source;

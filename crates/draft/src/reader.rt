@@ -1,10 +1,10 @@
 // A reader that hands out the records of a file one by one.
 ghost use mathlib.Core.Path.{_≡_};
-ghost use Prim.Native.Nat.{_+_, _*_, _^_, _≤_};
+ghost use Prim.Native.Nat.{_^_, _≤_};
 ghost use Rattle.std.specs.Results.{Cases};
 ghost use Rattle.draft.specs.Bits.{bitsOf};
 ghost use Rattle.draft.specs.Reading.{headerBit, columnCount, farthest, HandsOut, Refuses};
-ghost use Rattle.draft.specs.Runs.{Runs-read-the-file};
+ghost use Rattle.draft.specs.Runs.{Runs-read-the-file, Tells-the-same-again};
 ghost use Rattle.draft.specs.declared.record.Stage.the-variants.{Start};
 use crate::fault::ReadFault;
 use crate::record::Record;
@@ -27,6 +27,7 @@ impl<'a> Reader<'a> {
     pub fn new(file: &'a [u8]) -> Reader<'a>
         ensures start { λ r. ⌜ (now (r .file) ≡ now (file .entry)) × (r .at ≡ 0) × (r .stage ≡ Start) ⌝ }
         ensures runs { λ _. ⌜ Runs-read-the-file ⌝ }
+        ensures again { λ _. ⌜ Tells-the-same-again ⌝ }
     {
         Reader {
             file,

@@ -7,8 +7,8 @@ ghost use Rattle.std.specs.Results.{Cases};
 ghost use Rattle.std.specs.Vec.{made};
 ghost use Rattle.std.specs.declared.result.Result.the-variants.{Ok};
 ghost use Rattle.draft.specs.declared.fault.ReadError.the-variants.{NoMemory};
-ghost use Rattle.draft.specs.Drafts.{blockMeans, means, Unread};
-ghost use Rattle.draft.specs.File.{blockFormat, readFile, FileOf};
+ghost use Rattle.draft.specs.Drafts.{blockMeans, means, Unread, TheDraft, NoDraft};
+ghost use Rattle.draft.specs.File.{blockFormat, readFile};
 ghost use Rattle.draft.specs.Records.{blockOf, columnsOf};
 ghost use Rattle.draft.specs.Runs.{columnsIn, blocksIn, Fit};
 use crate::draft::Block;
@@ -105,7 +105,7 @@ fn add_record(
 // The draft of a file, or the first fault of the file.
 pub fn read_draft(heap: Global, file: &[u8]) -> Result<Draft, ReadError>
     ensures value { λ r. ⌜ Cases r (λ d. readFile (now (file .entry)) ≡ Ok (means d)) (Unread (now (file .entry))) ⌝ }
-    ensures back { λ r. ⌜ made r (λ d. FileOf (means d) (now (file .entry))) ⌝ }
+    ensures draft { λ r. ⌜ Cases r (λ d. TheDraft (now (file .entry)) (means d)) (NoDraft (now (file .entry))) ⌝ }
 {
     let mut reader = Reader::new(file);
     let mut columns = Vec::new(heap);

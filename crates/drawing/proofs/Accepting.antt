@@ -1,33 +1,40 @@
 -- The three rounds together, where the code lends parts of the draft.
-use Prim.Native.Nat.{ℕ, _<_}
+use Prim.Native.Nat.{ℕ}
 use mathlib.Core.Path.{_≡_, sym, ap, subst, subst₂, subst₃, _∙_}
-use mathlib.Core.Logic.{∥∥₁-elim}
 use mathlib.Core.List.{List}
-use lib.ListN.{length, getD, take}
-use mathlib.Core.Bool.{false, Bool-set}
+use lib.ListN.{length}
 use Rattle.values.specs.declared.scalar.ValueType.{ValueType}
+use Rattle.std.specs.Of.Vec.{vec-items}
 use Rattle.draft.specs.declared.draft.Block.{Block}
+use Rattle.draft.specs.declared.draft.Draft.{Draft}
+use Rattle.drawing.specs.declared.drawing.Drawing.{Drawing}
+use Rattle.drawing.specs.declared.drawing.Rejected.{Rejected}
 use Rattle.drawing.specs.declared.fault.CheckFault.{CheckFault}
 use Rattle.drawing.specs.declared.fault.CheckError.{CheckError}
 use Rattle.drawing.specs.declared.fault.CheckError.the-variants.{Fault, NoMemory}
 use Rattle.blocks.specs.Library.{Library}
 use Rattle.blocks.specs.declared.library.Signature.{Signature}
-use Rattle.drawing.specs.Faults.{AllFit, Counted, JoinedBefore, InputFault, First, Refuses, Unordered}
-use Rattle.drawing.specs.Members.{In}
-use Rattle.drawing.proofs.Solution.{fed-before}
-use Rattle.drawing.specs.Net.{Wired, Arranged}
+use Rattle.drawing.specs.Accept.{Accepts, Rejects}
+use Rattle.drawing.specs.Faults.{First, Refuses}
+use Rattle.drawing.specs.Suits.{Suits, AllFit}
+use Rattle.drawing.specs.Tests.{Counted, JoinedBefore, InputFault, Unordered, Planned}
+use Rattle.drawing.specs.Net.{Wired, Arranged, Placing}
 use Rattle.drawing.specs.Wiring.{net}
 use Rattle.drawing.specs.Sound.{Sound}
 use Rattle.drawing.proofs.Rounds.{nth-in}
-use Rattle.drawing.proofs.Sources.{counted, first-input, first-loop, wired}
+use Rattle.drawing.proofs.Suiting.{suited-is-right, unsuited}
+use Rattle.drawing.proofs.Earliest.{counted, first-input, first-loop, wired}
 
-pub joined-moved : (cs cs′ : List ValueType) (bs bs′ : List Block) (ss ss′ : List Signature) → cs′ ≡ cs → bs′ ≡ bs → ss′ ≡ ss → JoinedBefore cs′ bs′ ss′ (length bs′) → JoinedBefore cs bs ss (length bs)
+pub joined-moved : (cs cs′ : List ValueType) (bs bs′ : List Block) (ss ss′ : List Signature) → cs′ ≡ cs → bs′ ≡ bs → ss′ ≡ ss
+    → JoinedBefore cs′ bs′ ss′ (length bs′) → JoinedBefore cs bs ss (length bs)
 joined-moved cs cs′ bs bs′ ss ss′ p q r h = subst₃ (λ a b c. JoinedBefore a b c (length b)) p q r h
 
-pub arranged-moved : (bs bs′ : List Block) (ss ss′ : List Signature) (o : List ℕ) → bs′ ≡ bs → ss′ ≡ ss → Arranged (net bs′ ss′) o → Arranged (net bs ss) o
+pub arranged-moved : (bs bs′ : List Block) (ss ss′ : List Signature) (o : List ℕ) → bs′ ≡ bs → ss′ ≡ ss → Arranged (net bs′ ss′) o
+    → Arranged (net bs ss) o
 arranged-moved bs bs′ ss ss′ o q r h = subst₂ (λ b c. Arranged (net b c) o) q r h
 
-module _ (f : Library) (cs cs′ : List ValueType) (bs bs′ : List Block) (ss ss′ : List Signature) (p : cs′ ≡ cs) (q : bs′ ≡ bs) (r : ss′ ≡ ss) (fit : AllFit f bs ss) where
+module _ (f : Library) (cs cs′ : List ValueType) (bs bs′ : List Block) (ss ss′ : List Signature) (p : cs′ ≡ cs) (q : bs′ ≡ bs)
+    (r : ss′ ≡ ss) (fit : AllFit f bs ss) where
   pub counted-moved : Counted bs′ ss′
   counted-moved = subst₂ Counted (sym q) (sym r) (counted f cs bs ss fit)
 
@@ -48,15 +55,30 @@ module _ (f : Library) (cs cs′ : List ValueType) (bs bs′ : List Block) (ss s
         subst (First f cs bs) (sym (z .1)) (first-loop f cs bs ss fit joined (z .0) (z .2))
 
 -- what the drawing keeps
-pub sound : (f : Library) (cs : List ValueType) (bs : List Block) (ss : List Signature) (o : List ℕ) → AllFit f bs ss → JoinedBefore cs bs ss (length bs) → Arranged (net bs ss) o → Sound cs bs ss o
+pub sound : (f : Library) (cs : List ValueType) (bs : List Block) (ss : List Signature) (o : List ℕ) → AllFit f bs ss
+    → JoinedBefore cs bs ss (length bs) → Arranged (net bs ss) o → Sound cs bs ss o
 sound f cs bs ss o fit joined h = record {
   count = fit .count;
   typed = λ b k s at is. record { inputs = fit .fit b k s at is .inputs; params = fit .fit b k s at is .params; joined = joined b k s (nth-in bs b k at) at is };
   orders = h .orders;
+  placing = h .placing;
 }
 
--- An invariant is truncated. What it says of tests is a proposition, and comes out of it.
-pub kept-before : (cs : List ValueType) (bs : List Block) (ss : List Signature) (order seen : List ℕ) → seen ≡ order → ∥ Sound cs bs ss order ∥₁ → (j : ℕ) → j < length seen → net bs ss .delays (getD seen j 0) ≡ false → (u : ℕ) → In u (net bs ss .sources (getD seen j 0)) → In u (take j seen)
-kept-before cs bs ss order seen e t =
-    subst (λ l. (j : ℕ) → j < length l → net bs ss .delays (getD l j 0) ≡ false → (u : ℕ) → In u (net bs ss .sources (getD l j 0)) → In u (take j l)) (sym e)
-    (λ j h d u s. ∥∥₁-elim t (Bool-set _ _) (λ k. fed-before (net bs ss) order (k .orders) j h d u s))
+-- the answers of the check, where it read the draft's parts through its accessors
+module _ (L : Library) (d : Draft) (cs : List ValueType) (bs : List Block) (p : cs ≡ vec-items (d .columns)) (q : bs ≡ vec-items (d .blocks)) where
+  pub accepts : (r : Drawing) → r .draft ≡ d → Planned L cs bs (vec-items (r .signatures)) (vec-items (r .order)) → Accepts L d r
+  accepts r e h =
+      let suited : Suits L (vec-items (d .columns)) (vec-items (d .blocks)) = subst₂ (Suits L) p q (h .suits) in
+      record {
+        draft = e;
+        suits = suited;
+        sound = suited-is-right L (vec-items (d .columns)) (vec-items (d .blocks)) suited;
+        signatures = subst (λ b. AllFit L b (vec-items (r .signatures))) q (h .signatures);
+        order = subst (λ b. Placing (net b (vec-items (r .signatures))) (vec-items (r .order))) q (h .keeps .placing);
+        keeps = subst₂ (λ c b. Sound c b (vec-items (r .signatures)) (vec-items (r .order))) p q (h .keeps);
+      }
+
+  pub rejects : (r : Rejected) → r .draft ≡ d → Refuses L cs bs (r .error) → Rejects L d r
+  rejects r e h =
+      let refused : Refuses L (vec-items (d .columns)) (vec-items (d .blocks)) (r .error) = subst₂ (λ c b. Refuses L c b (r .error)) p q h in
+      record { draft = e; unsuited = unsuited L (vec-items (d .columns)) (vec-items (d .blocks)) (r .error) refused; error = refused }

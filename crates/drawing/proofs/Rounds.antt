@@ -7,31 +7,34 @@ use mathlib.Core.List.{List, [], _∷_, _++_, map}
 use native.Mathlib.Omega.{arith}
 use lib.ListN.{length}
 use borrow.Author.Tests.{both-ways}
-use Rattle.std.specs.Of.Vec.{vec-items, vec-len}
+use Rattle.std.specs.Of.Vec.{vec-items}
 use Rattle.std.specs.shelf.Maps.{nth}
 use Rattle.std.specs.declared.option.Option.the-variants.{Some, None}
 use Rattle.std.proofs.shelf.Lists.{length-map, length-push}
 use Rattle.values.specs.declared.scalar.ValueType.{ValueType}
-use Rattle.values.specs.declared.scalar.Value.{Value}
 use Rattle.blocks.specs.declared.library.Signature.{Signature}
 use Rattle.draft.specs.declared.draft.Block.{Block}
 use Rattle.drawing.specs.declared.fault.CheckFault.{CheckFault}
 use Rattle.drawing.specs.declared.fault.CheckFault.the-variants.{UnknownKind, InputCount, ParameterCount, ParameterType, Unlawful, SourceAbsent, SourceType, Loop}
 use Rattle.blocks.specs.Library.{Library, listed}
 use Rattle.values.specs.Values.{typeOf}
-use Rattle.drawing.specs.Faults.{turn, Lower, Signed, Wrong, First, Fits, AllFit, Passed, BlockFault}
+use Rattle.drawing.specs.Faults.{turn, Lower, Wrong, First}
+use Rattle.drawing.specs.Suits.{Signed, Fits, AllFit}
+use Rattle.drawing.specs.Tests.{Passed, BlockFault}
 
 same-block : (bs : List Block) (b : ℕ) (k l : Block) → nth bs b ≡ Some k → nth bs b ≡ Some l → k ≡ l
 same-block bs b k l p q = cc
 
-same-sign : (f : Library) (k l : Block) (s t : Signature) → k ≡ l → f .signature (k .kind) ≡ Some s → f .signature (l .kind) ≡ Some t → s ≡ t
+same-sign : (f : Library) (k l : Block) (s t : Signature) → k ≡ l → f .signature (k .kind) ≡ Some s
+    → f .signature (l .kind) ≡ Some t → s ≡ t
 same-sign f k l s t e p q = cc
 
 unsigned : (f : Library) (k l : Block) (s : Signature) → k ≡ l → f .signature (k .kind) ≡ Some s → f .signature (l .kind) ≡ None → ⊥
 unsigned f k l s e p q = let z : _≡_ {A = ℕ} 0 1 = cc in omega arith
 
 -- What passed before the test n at block k cannot be a fault there.
-module _ (f : Library) (cs : List ValueType) (bs : List Block) (c : ℕ) (k : Block) (at : nth bs c ≡ Some k) (n p : ℕ) (flat : (n ≡ 4) ⊎ (p ≡ 0)) (passed : 1 < n → (s : Signature) × Passed f k s n p) where
+module _ (f : Library) (cs : List ValueType) (bs : List Block) (c : ℕ) (k : Block) (at : nth bs c ≡ Some k) (n p : ℕ)
+    (flat : (n ≡ 4) ⊎ (p ≡ 0)) (passed : 1 < n → (s : Signature) × Passed f k s n p) where
   no-kind : Lower (1 ∷ 0 ∷ []) (n ∷ p ∷ []) → Wrong f cs bs (UnknownKind c) → ⊥
   no-kind h w =
       let lt : 1 < n = omega arith in
@@ -107,7 +110,7 @@ module _ (f : Library) (cs : List ValueType) (bs : List Block) (b : ℕ) (before
     moved : (c : ℕ) → c ≡ b → nth bs c ≡ Some k
     moved c e = ap (nth bs) e ∙ at
 
-    pub earliest-at : (d : CheckFault) → Lower (turn d) (1 ∷ b ∷ n ∷ p ∷ []) → Wrong f cs bs d → ⊥
+    earliest-at : (d : CheckFault) → Lower (turn d) (1 ∷ b ∷ n ∷ p ∷ []) → Wrong f cs bs d → ⊥
     earliest-at (UnknownKind c) h w =
         ⊎-elim (λ z. omega arith) (λ z. ⊎-elim
         (λ lt. no-kind f cs bs c (w .0) (w .1) 6 0 (inr refl) (whole c lt (w .0) (w .1)) (inl (omega arith)) w)
@@ -132,38 +135,55 @@ module _ (f : Library) (cs : List ValueType) (bs : List Block) (b : ℕ) (before
     earliest-at (SourceType c i) h w = ⊎-elim (λ z. omega arith) (λ z. omega (arith, z .0)) h
     earliest-at (Loop c) h w = ⊎-elim (λ z. omega arith) (λ z. omega (arith, z .0)) h
 
+    found : (c : ℕ) → c ≡ b → (e : CheckFault) → turn e ≡ 1 ∷ c ∷ n ∷ p ∷ [] → Wrong f cs bs e → First f cs bs e
+    found c same e here w = record {
+      wrong = w;
+      earliest = λ d l. earliest-at d (subst (λ x. Lower (turn d) (1 ∷ x ∷ n ∷ p ∷ [])) same (subst (Lower (turn d)) here l));
+    }
+
+  signed-there : (k : Block) (c : ℕ) (s : Signature) → nth bs b ≡ Some k → c ≡ b → f .signature (k .kind) ≡ Some s → Signed f bs c k s
+  signed-there k c s at same known = record { block = ap (nth bs) same ∙ at; signs = known }
+
   pub first-at : (k : Block) → nth bs b ≡ Some k → (e : CheckFault) → BlockFault f b k e → First f cs bs e
   first-at k at (UnknownKind c) h =
-      let here : nth bs c ≡ Some k = ap (nth bs) (h .0) ∙ at in
-      record { wrong = (k, here, h .1); earliest = λ d l. earliest-at k at 1 0 (inr refl) (λ z. absurd (omega arith)) d (subst (λ x. Lower (turn d) (1 ∷ x ∷ 1 ∷ 0 ∷ [])) (h .0) l) }
+      found k at 1 0 (inr refl) (λ z. absurd (omega arith)) c (h .0) (UnknownKind c) refl (k, ap (nth bs) (h .0) ∙ at, h .1)
   first-at k at (InputCount c) h =
-      let here : nth bs c ≡ Some k = ap (nth bs) (h .0) ∙ at in
-      record { wrong = (k, h .1, record { block = here; signs = h .2 .known (omega arith) }, h .3); earliest = λ d l. earliest-at k at 2 0 (inr refl) (λ _. (h .1, h .2)) d (subst (λ x. Lower (turn d) (1 ∷ x ∷ 2 ∷ 0 ∷ [])) (h .0) l) }
+      found k at 2 0 (inr refl) (λ _. (h .1, h .2)) c (h .0) (InputCount c) refl
+      (k, h .1, signed-there k c (h .1) at (h .0) (h .2 .known (omega arith)), h .3)
   first-at k at (ParameterCount c) h =
-      let here : nth bs c ≡ Some k = ap (nth bs) (h .0) ∙ at in
-      record { wrong = (k, h .1, record { block = here; signs = h .2 .known (omega arith) }, h .3); earliest = λ d l. earliest-at k at 3 0 (inr refl) (λ _. (h .1, h .2)) d (subst (λ x. Lower (turn d) (1 ∷ x ∷ 3 ∷ 0 ∷ [])) (h .0) l) }
+      found k at 3 0 (inr refl) (λ _. (h .1, h .2)) c (h .0) (ParameterCount c) refl
+      (k, h .1, signed-there k c (h .1) at (h .0) (h .2 .known (omega arith)), h .3)
   first-at k at (ParameterType c p) h =
-      let here : nth bs c ≡ Some k = ap (nth bs) (h .0) ∙ at in
-      record { wrong = (k, h .1, record { block = here; signs = h .2 .known (omega arith) }, h .3, h .4); earliest = λ d l. earliest-at k at 4 p (inl refl) (λ _. (h .1, h .2)) d (subst (λ x. Lower (turn d) (1 ∷ x ∷ 4 ∷ p ∷ [])) (h .0) l) }
+      found k at 4 p (inl refl) (λ _. (h .1, h .2)) c (h .0) (ParameterType c p) refl
+      (k, h .1, signed-there k c (h .1) at (h .0) (h .2 .known (omega arith)), h .3, h .4)
   first-at k at (Unlawful c) h =
-      let here : nth bs c ≡ Some k = ap (nth bs) (h .0) ∙ at in
-      record { wrong = (k, here, h .3); earliest = λ d l. earliest-at k at 5 0 (inr refl) (λ _. (h .1, h .2)) d (subst (λ x. Lower (turn d) (1 ∷ x ∷ 5 ∷ 0 ∷ [])) (h .0) l) }
+      found k at 5 0 (inr refl) (λ _. (h .1, h .2)) c (h .0) (Unlawful c) refl (k, ap (nth bs) (h .0) ∙ at, h .3)
   first-at k at (SourceAbsent c i) h = absurd h
   first-at k at (SourceType c i) h = absurd h
   first-at k at (Loop c) h = absurd h
 
 -- where every block passes, the first round finds nothing
-pub clean-first : (f : Library) (cs : List ValueType) (bs : List Block) → PassBefore f bs (length bs) → (d : CheckFault) → Lower (turn d) (2 ∷ []) → Wrong f cs bs d → ⊥
-clean-first f cs bs before (UnknownKind c) h w = no-kind f cs bs c (w .0) (w .1) 6 0 (inr refl) (whole f cs bs (length bs) before c (nth-in bs c _ (w .1)) (w .0) (w .1)) (inl (omega arith)) w
-clean-first f cs bs before (InputCount c) h w = no-inputs f cs bs c (w .0) (w .2 .block) 6 0 (inr refl) (whole f cs bs (length bs) before c (nth-in bs c _ (w .2 .block)) (w .0) (w .2 .block)) (inl (omega arith)) w
-clean-first f cs bs before (ParameterCount c) h w = no-count f cs bs c (w .0) (w .2 .block) 6 0 (inr refl) (whole f cs bs (length bs) before c (nth-in bs c _ (w .2 .block)) (w .0) (w .2 .block)) (inl (omega arith)) w
-clean-first f cs bs before (ParameterType c q) h w = no-type f cs bs c (w .0) (w .2 .block) 6 0 (inr refl) (whole f cs bs (length bs) before c (nth-in bs c _ (w .2 .block)) (w .0) (w .2 .block)) q (inl (omega arith)) w
-clean-first f cs bs before (Unlawful c) h w = no-law f cs bs c (w .0) (w .1) 6 0 (inr refl) (whole f cs bs (length bs) before c (nth-in bs c _ (w .1)) (w .0) (w .1)) (inl (omega arith)) w
-clean-first f cs bs before (SourceAbsent c i) h w = ⊎-elim (λ z. omega arith) (λ z. z .1) h
-clean-first f cs bs before (SourceType c i) h w = ⊎-elim (λ z. omega arith) (λ z. z .1) h
-clean-first f cs bs before (Loop c) h w = ⊎-elim (λ z. omega arith) (λ z. z .1) h
+module _ (f : Library) (cs : List ValueType) (bs : List Block) (before : PassBefore f bs (length bs)) where
+  all-passed : (c : ℕ) (k : Block) → nth bs c ≡ Some k → 1 < 6 → (s : Signature) × Passed f k s 6 0
+  all-passed c k at = whole f cs bs (length bs) before c (nth-in bs c k at) k at
 
-nth-push : {X : Type 0} (xs : List X) (y : X) (i : ℕ) (x : X) → nth (xs ++ y ∷ []) i ≡ Some x → (nth xs i ≡ Some x) ⊎ ((i ≡ length xs) × (y ≡ x))
+  pub clean-first : (d : CheckFault) → Lower (turn d) (2 ∷ []) → Wrong f cs bs d → ⊥
+  clean-first (UnknownKind c) h w =
+      no-kind f cs bs c (w .0) (w .1) 6 0 (inr refl) (all-passed c (w .0) (w .1)) (inl (omega arith)) w
+  clean-first (InputCount c) h w =
+      no-inputs f cs bs c (w .0) (w .2 .block) 6 0 (inr refl) (all-passed c (w .0) (w .2 .block)) (inl (omega arith)) w
+  clean-first (ParameterCount c) h w =
+      no-count f cs bs c (w .0) (w .2 .block) 6 0 (inr refl) (all-passed c (w .0) (w .2 .block)) (inl (omega arith)) w
+  clean-first (ParameterType c q) h w =
+      no-type f cs bs c (w .0) (w .2 .block) 6 0 (inr refl) (all-passed c (w .0) (w .2 .block)) q (inl (omega arith)) w
+  clean-first (Unlawful c) h w =
+      no-law f cs bs c (w .0) (w .1) 6 0 (inr refl) (all-passed c (w .0) (w .1)) (inl (omega arith)) w
+  clean-first (SourceAbsent c i) h w = ⊎-elim (λ z. omega arith) (λ z. z .1) h
+  clean-first (SourceType c i) h w = ⊎-elim (λ z. omega arith) (λ z. z .1) h
+  clean-first (Loop c) h w = ⊎-elim (λ z. omega arith) (λ z. z .1) h
+
+nth-push : {X : Type 0} (xs : List X) (y : X) (i : ℕ) (x : X) → nth (xs ++ y ∷ []) i ≡ Some x
+    → (nth xs i ≡ Some x) ⊎ ((i ≡ length xs) × (y ≡ x))
 nth-push [] y zero x e = inr (refl, cc)
 nth-push [] y (suc i) x e = inl e
 nth-push (z ∷ xs) y zero x e = inl e
@@ -178,7 +198,8 @@ module _ (f : Library) (bs : List Block) where
   pub fit-none : (ss : List Signature) → ss ≡ [] → FitUpTo f bs ss 0
   fit-none ss e = record { count = ap length e; fit = λ i k s _ h. let z : _≡_ {A = ℕ} 0 1 = cc in absurd (omega arith) }
 
-  pub fit-more : (ss after : List Signature) (b : ℕ) (k : Block) (s : Signature) → nth bs b ≡ Some k → after ≡ ss ++ s ∷ [] → FitUpTo f bs ss b → Fits f k s → FitUpTo f bs after (b + 1)
+  pub fit-more : (ss after : List Signature) (b : ℕ) (k : Block) (s : Signature) → nth bs b ≡ Some k → after ≡ ss ++ s ∷ []
+      → FitUpTo f bs ss b → Fits f k s → FitUpTo f bs after (b + 1)
   fit-more ss after b k s at e h new = record {
     count = ap length e ∙ length-push ss s ∙ ap (λ n. n + 1) (h .count);
     fit = λ i l t p q.

@@ -26,7 +26,8 @@ abbrev fault : List ℕ → CheckFault
 fault t =
     let b = getD t 1 0 in
     let c = getD t 2 0 in
-    cond (eqb (getD t 0 0) 1) (cond (eqb c 1) (UnknownKind b) (cond (eqb c 2) (InputCount b) (cond (eqb c 3) (ParameterCount b) (cond (eqb c 4) (ParameterType b (getD t 3 0)) (Unlawful b)))))
+    cond (eqb (getD t 0 0) 1) (cond (eqb c 1) (UnknownKind b) (cond (eqb c 2) (InputCount b)
+    (cond (eqb c 3) (ParameterCount b) (cond (eqb c 4) (ParameterType b (getD t 3 0)) (Unlawful b)))))
     (cond (eqb (getD t 0 0) 2) (cond (eqb (getD t 3 0) 1) (SourceAbsent b c) (SourceType b c)) (Loop b))
 
 fault-turn : (e : CheckFault) → fault (turn e) ≡ e
@@ -41,4 +42,5 @@ fault-turn (Loop b) = refl
 
 pub one-first : OneFirst
 one-first f cs bs d e h k =
-    ⊎-elim (λ s. sym (fault-turn d) ∙ ap fault s ∙ fault-turn e) (λ o. absurd (⊎-elim (λ l. k .earliest d l (h .wrong)) (λ l. h .earliest e l (k .wrong)) o)) (lower-or (turn d) (turn e))
+    ⊎-elim (λ s. sym (fault-turn d) ∙ ap fault s ∙ fault-turn e) (λ o. absurd
+    (⊎-elim (λ l. k .earliest d l (h .wrong)) (λ l. h .earliest e l (k .wrong)) o)) (lower-or (turn d) (turn e))

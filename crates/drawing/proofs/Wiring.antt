@@ -1,7 +1,7 @@
 -- Laws of `feeders` and `net`.
 use Prim.Native.Nat.{ℕ, zero, suc, _<_}
 use mathlib.Core.Path.{_≡_, refl, sym, ap, subst, _∙_}
-use mathlib.Core.Bool.{Bool, true, false}
+use mathlib.Core.Bool.{Bool, false}
 use mathlib.Core.Logic.{_⊎_, ⊎-elim}
 use mathlib.Core.List.{List, [], _∷_, map}
 use native.Mathlib.Omega.{arith}
@@ -40,9 +40,10 @@ pub feeder-place : (ss : List Source) (u : ℕ) → In u (feeders ss) → (i : �
 feeder-place [] u h = absurd (both-ways _ refl h)
 feeder-place (Column c ∷ ss) u h = let p = feeder-place ss u h in (suc (p .0), omega (arith, p .1), p .2)
 feeder-place (Output b ∷ ss) u h =
-    ⊎-elim (λ e. (0, omega arith, λ d. ap Output (sym e))) (λ t. let p = feeder-place ss u t in (suc (p .0), omega (arith, p .1), p .2)) (in-cases u b (feeders ss) h)
+    ⊎-elim (λ e. (0, omega arith, λ d. ap Output (sym e))) (λ t. let p = feeder-place ss u t in
+    (suc (p .0), omega (arith, p .1), p .2)) (in-cases u b (feeders ss) h)
 
-from-nth : {X : Type 0} (xs : List X) (i : ℕ) (x d : X) → nth xs i ≡ Some x → getD xs i d ≡ x
+pub from-nth : {X : Type 0} (xs : List X) (i : ℕ) (x d : X) → nth xs i ≡ Some x → getD xs i d ≡ x
 from-nth [] i x d e = let z : _≡_ {A = ℕ} 0 1 = cc in absurd (omega arith)
 from-nth (y ∷ ys) zero x d e = cc
 from-nth (y ∷ ys) (suc i) x d e = from-nth ys i x d e
@@ -52,7 +53,8 @@ module _ (bs : List Block) (ss : List Signature) (v : ℕ) where
   sources-at b h = getD-map (λ b. feeders (vec-items (b .sources))) bs v b [] h
 
   pub sources-nth : (b : Block) → nth bs v ≡ Some b → net bs ss .sources v ≡ feeders (vec-items (b .sources))
-  sources-nth b e = from-nth (map (λ b. feeders (vec-items (b .sources))) bs) v (feeders (vec-items (b .sources))) [] (nth-map (λ b. feeders (vec-items (b .sources))) bs v b e)
+  sources-nth b e = from-nth (map (λ b. feeders (vec-items (b .sources))) bs) v (feeders (vec-items (b .sources))) []
+      (nth-map (λ b. feeders (vec-items (b .sources))) bs v b e)
 
 module _ (bs : List Block) (ss : List Signature) (v : ℕ) where
   pub delays-nth : (s : Signature) → nth ss v ≡ Some s → net bs ss .delays v ≡ s .delaying
@@ -61,17 +63,14 @@ module _ (bs : List Block) (ss : List Signature) (v : ℕ) where
   pub delays-at : (s : Signature) → v < length ss → net bs ss .delays v ≡ (getD ss v s) .delaying
   delays-at s h = getD-map (λ s. s .delaying) ss v s false h
 
-  module _ (order : List ℕ) (in-blocks : v < length bs) (same : length ss ≡ length bs) (fresh : among v order ≡ false) (s : Signature) where
-    delays-is : net bs ss .delays v ≡ (getD ss v s) .delaying
-    delays-is = delays-at s (omega arith)
-
-    pub ready-delaying : (getD ss v s) .delaying ≡ true → Ready (net bs ss) order v
-    ready-delaying d = record { block = in-blocks; fresh = fresh; allowed = λ f. absurd (both-ways _ f (delays-is ∙ d)) }
-
-    -- a block that does not delay waits for its sources
-    pub ready-direct : (getD ss v s) .delaying ≡ false → (b : Block) (xs : List Source) → xs ≡ vec-items ((getD bs v b) .sources) → (r : Bool) → Decides r ((u : ℕ) → In u (feeders xs) → In u order) → Decides r (Ready (net bs ss) order v)
-    ready-direct d b xs e r h =
-        let at : net bs ss .sources v ≡ feeders xs = sources-at bs ss v b in-blocks ∙ ap feeders (sym e) in (
-          λ t. record { block = in-blocks; fresh = fresh; allowed = λ f u k. h .0 t u (subst (In u) at k) },
-          λ k. h .1 (λ u m. k .allowed (delays-is ∙ d) u (subst (In u) (sym at) m)),
-        )
+  -- whether block v can be placed, from the test of its signature and its sources
+  pub ready-decides : (order : List ℕ) → v < length bs → length ss ≡ length bs → among v order ≡ false
+      → (b : Block) (s : Signature) (xs : List Source) → xs ≡ vec-items ((getD bs v b) .sources) → (r : Bool)
+      → Decides r ((getD ss v s) .delaying ≡ false → (u : ℕ) → In u (feeders xs) → In u order)
+      → Decides r (Ready (net bs ss) order v)
+  ready-decides order lt same fresh b s xs e r h =
+      let at : net bs ss .sources v ≡ feeders xs = sources-at bs ss v b lt ∙ ap feeders (sym e) in
+      let is : net bs ss .delays v ≡ (getD ss v s) .delaying = delays-at s (omega arith) in (
+        λ t. record { block = lt; fresh = fresh; allowed = λ f u k. h .0 t (sym is ∙ f) u (subst (In u) at k) },
+        λ k. h .1 (λ f u m. k .allowed (is ∙ f) u (subst (In u) (sym at) m)),
+      )

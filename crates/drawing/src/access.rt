@@ -6,6 +6,7 @@ use draft::Draft;
 use values::ValueType;
 ghost use mathlib.Core.Path.{_≡_};
 ghost use Rattle.std.specs.Of.Vec.{vec-items};
+ghost use Rattle.drawing.specs.Sound.{Sound};
 
 impl Drawing {
     pub fn draft(&self) -> &Draft
@@ -37,5 +38,13 @@ impl Drawing {
         ensures { λ r. ⌜ now r ≡ vec-items (now (self .entry) .order) ⌝ }
     {
         self.order.as_slice()
+    }
+
+    // Every drawing keeps right types by its signatures, and the order that placing the lowest block first gives.
+    pub fn keeps(&self) -> u8
+        ensures { λ _. ⌜ Sound (vec-items (now (self .entry) .draft .columns)) (vec-items (now (self .entry) .draft .blocks))
+            (vec-items (now (self .entry) .signatures)) (vec-items (now (self .entry) .order)) ⌝ }
+    {
+        0
     }
 }

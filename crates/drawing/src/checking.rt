@@ -1,16 +1,18 @@
 // The tests of a drawing, in their order.
 ghost use mathlib.Core.Path.{_≡_};
-ghost use Prim.Native.Nat.{ℕ, _<_};
 ghost use lib.ListN.{length};
 ghost use mathlib.Core.List.{List, map};
 ghost use Rattle.std.specs.Of.Vec.{vec-items};
 ghost use Rattle.std.specs.Options.{Cases as BySome};
-ghost use Rattle.std.specs.shelf.Maps.{nth};
 ghost use Rattle.std.specs.Results.{Cases};
+ghost use Rattle.std.specs.shelf.Maps.{nth};
 ghost use Rattle.blocks.specs.Library.{listed};
 ghost use Rattle.values.specs.Values.{typeOf};
-ghost use Rattle.drawing.specs.Accept.{Accepts, Rejects, Planned};
-ghost use Rattle.drawing.specs.Faults.{Fits, AllFit, BlockFault, Refuses, gives, Joined, SourceFault, Counted, JoinedBefore, InputFault, OneFirst};
+ghost use Rattle.drawing.specs.Accept.{Accepts, Rejects};
+ghost use Rattle.drawing.specs.Faults.{Refuses};
+ghost use Rattle.drawing.specs.Sound.{gives, Joined};
+ghost use Rattle.drawing.specs.Suits.{Fits, AllFit};
+ghost use Rattle.drawing.specs.Tests.{Misfit, BlockFault, SourceFault, Counted, JoinedBefore, InputFault, Planned};
 use crate::drawing::Drawing;
 use crate::drawing::Plan;
 use crate::drawing::Rejected;
@@ -33,7 +35,7 @@ use values::ValueType;
 // The first parameter whose type is not the one that is asked.
 fn misfit(params: &[Value], types: Types) -> Option<usize>
     requires { ⌜ length (now params) ≡ length (listed types) ⌝ }
-    ensures { λ r. ⌜ BySome r (map typeOf (now (params .entry)) ≡ listed types) (λ p. (p < length (now (params .entry))) × (nth (map typeOf (now (params .entry))) p ≡ nth (listed types) p → ⊥) × ((q : ℕ) → q < p → nth (map typeOf (now (params .entry))) q ≡ nth (listed types) q)) ⌝ }
+    ensures { λ r. ⌜ BySome r (map typeOf (now (params .entry)) ≡ listed types) (Misfit (now (params .entry)) (listed types)) ⌝ }
 {
     for p in 0..params.len() {
         if !types.has(p, params[p].value_type()) {
@@ -49,7 +51,9 @@ fn check_block<L: BlockLibrary>(
     b: usize,
     block: &Block,
 ) -> Result<Signature, CheckFault>
-    ensures { λ r. ⌜ Cases r (λ s. Fits (meaning (now (library .entry))) (now (block .entry)) s) (BlockFault (meaning (now (library .entry))) b (now (block .entry))) ⌝ }
+    ensures { λ r. ⌜ Cases r
+        (Fits (meaning (now (library .entry))) (now (block .entry)))
+        (BlockFault (meaning (now (library .entry))) b (now (block .entry))) ⌝ }
 {
     let kind = block.kind();
     let params = block.params();
@@ -78,7 +82,9 @@ fn sign_all<L: BlockLibrary>(
     library: &L,
     blocks: &[Block],
 ) -> Result<Vec<Signature>, CheckError>
-    ensures { λ r. ⌜ Cases r (λ v. AllFit (meaning (now (library .entry))) (now (blocks .entry)) (vec-items v)) (λ e. (cs : List ValueType) → Refuses (meaning (now (library .entry))) cs (now (blocks .entry)) e) ⌝ }
+    ensures { λ r. ⌜ Cases r
+        (λ v. AllFit (meaning (now (library .entry))) (now (blocks .entry)) (vec-items v))
+        (λ e. (cs : List ValueType) → Refuses (meaning (now (library .entry))) cs (now (blocks .entry)) e) ⌝ }
 {
     let mut signatures = Vec::new(heap);
     for (b, block) in blocks.iter().enumerate() {
@@ -126,7 +132,9 @@ fn check_sources(
     inputs: Types,
 ) -> Result<(), CheckFault>
     requires { ⌜ length (now sources) ≡ length (listed inputs) ⌝ }
-    ensures { λ r. ⌜ Cases r (λ _. Joined (now (columns .entry)) (now (signatures .entry)) (now (sources .entry)) (listed inputs)) (SourceFault (now (columns .entry)) (now (signatures .entry)) b (now (sources .entry)) (listed inputs)) ⌝ }
+    ensures { λ r. ⌜ Cases r
+        (λ _. Joined (now (columns .entry)) (now (signatures .entry)) (now (sources .entry)) (listed inputs))
+        (SourceFault (now (columns .entry)) (now (signatures .entry)) b (now (sources .entry)) (listed inputs)) ⌝ }
 {
     for i in 0..sources.len() {
         let Some(t) = source_type(columns, signatures, sources[i]) else {
@@ -147,7 +155,9 @@ fn check_inputs(
 ) -> Result<(), CheckFault>
     requires signed { ⌜ length (now signatures) ≡ length (now blocks) ⌝ }
     requires counted { ⌜ Counted (now blocks) (now signatures) ⌝ }
-    ensures { λ r. ⌜ Cases r (λ _. JoinedBefore (now (columns .entry)) (now (blocks .entry)) (now (signatures .entry)) (length (now (blocks .entry)))) (InputFault (now (columns .entry)) (now (blocks .entry)) (now (signatures .entry))) ⌝ }
+    ensures { λ r. ⌜ Cases r
+        (λ _. JoinedBefore (now (columns .entry)) (now (blocks .entry)) (now (signatures .entry)) (length (now (blocks .entry))))
+        (InputFault (now (columns .entry)) (now (blocks .entry)) (now (signatures .entry))) ⌝ }
 {
     for b in 0..blocks.len() {
         check_sources(
@@ -168,7 +178,10 @@ fn judge<L: BlockLibrary>(
     columns: &[ValueType],
     blocks: &[Block],
 ) -> Result<Plan, CheckError>
-    ensures { λ r. ⌜ Cases r (λ p. Planned (meaning (now (library .entry))) (now (columns .entry)) (now (blocks .entry)) (vec-items (p .signatures)) (vec-items (p .order))) (Refuses (meaning (now (library .entry))) (now (columns .entry)) (now (blocks .entry))) ⌝ }
+    ensures { λ r. ⌜ Cases r
+        (λ p. Planned (meaning (now (library .entry))) (now (columns .entry)) (now (blocks .entry))
+        (vec-items (p .signatures)) (vec-items (p .order)))
+        (Refuses (meaning (now (library .entry))) (now (columns .entry)) (now (blocks .entry))) ⌝ }
 {
     let signatures = sign_all(heap, library, blocks)?;
     check_inputs(columns, blocks, &signatures)?;
@@ -176,9 +189,11 @@ fn judge<L: BlockLibrary>(
     Ok(Plan { signatures, order })
 }
 
-// Checks a draft: a drawing, or the first fault with the draft.
+// Checks a draft: it is accepted exactly when it suits the library, else it comes back with the first fault.
 pub fn check<L: BlockLibrary>(heap: Global, library: &L, draft: Draft) -> Result<Drawing, Rejected>
-    ensures { λ r. ⌜ Cases r (Accepts (meaning (now (library .entry))) draft) (Rejects (meaning (now (library .entry))) draft) ⌝ }
+    ensures { λ r. ⌜ Cases r
+        (Accepts (meaning (now (library .entry))) draft)
+        (Rejects (meaning (now (library .entry))) draft) ⌝ }
 {
     match judge(heap, library, draft.columns(), draft.blocks()) {
         Ok(plan) => Ok(Drawing {
@@ -188,11 +203,4 @@ pub fn check<L: BlockLibrary>(heap: Global, library: &L, draft: Draft) -> Result
         }),
         Err(error) => Err(Rejected { draft, error }),
     }
-}
-
-// A refused drawing has one first fault.
-pub fn one_first() -> u8
-    ensures { λ _. ⌜ OneFirst ⌝ }
-{
-    0
 }

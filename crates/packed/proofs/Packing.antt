@@ -1,8 +1,7 @@
 -- A draft is written part by part, and its file is whole bytes.
 use mathlib.Core.Path.{_≡_, refl, sym, ap, subst, _∙_}
-use mathlib.Core.List.{List, [], _∷_, _++_, map}
+use mathlib.Core.List.{List, [], _∷_, _++_}
 use Prim.Native.Nat.{ℕ, zero, suc, _+_, _-_, _*_, _/_, _%_, _<_, _≤_}
-use native.Mathlib.Nat.{add-assoc}
 use native.Mathlib.Omega.{arith}
 use lib.ListN.{length, take, drop}
 use Rattle.std.proofs.shelf.Lists.{take-at, drop-at, length-take-le}
@@ -11,19 +10,20 @@ use Rattle.std.specs.declared.result.Result.{Result}
 use Rattle.std.specs.declared.result.Result.the-variants.{Ok, Err}
 use Rattle.faults.specs.declared.fault.Fault.{Fault}
 use Rattle.faults.specs.declared.fault.Fault.the-variants.{OutputShort}
-use Rattle.packed.specs.Written.{Written}
+use Rattle.packed.specs.Written.{Written, Rewritten}
 use Rattle.values.specs.declared.scalar.ValueType.{ValueType}
 use Rattle.draft.specs.declared.record.Header.{Header}
 use Rattle.draft.specs.Bits.{field, bitsOf}
 use Rattle.draft.specs.Format.{then, times, sizeAll}
-use Rattle.draft.specs.File.{BlockOf, DraftOf, gap, typeFormat, paddingFormat, nameByte, sourceFormat, paramFormat, headerFormat, columnsFormat, blockFormat, draftRest, draftFormat, FileOf, Writable, readFile}
-use Rattle.packed.specs.Put.{Put, Writes}
+use Rattle.draft.specs.File.{BlockOf, DraftOf, gap, typeFormat, paddingFormat, sourceFormat, paramFormat, headerFormat, columnsFormat, blockFormat, draftRest, draftFormat, FileOf, Writable, readFile}
+use Rattle.packed.specs.Put.{Writes}
 use Rattle.draft.proofs.BitLaws.{length-bitsOf}
 use Rattle.draft.proofs.Blocks.{sizeAll-names}
 use Rattle.draft.proofs.Loops.{sizeAll-zeros}
 use Rattle.draft.proofs.FileLaws.{header-exact, columns-exact}
-use Rattle.std.specs.Vec.{made}
-use Rattle.draft.proofs.RoundTrip.{reads-written}
+use Rattle.std.specs.Vec.{made, Every as All}
+use Rattle.std.proofs.shelf.Elements.{all-take}
+use Rattle.draft.proofs.RoundTrip.{reads-written, writes-read, one-file}
 use Rattle.packed.proofs.Puts.{writes-then}
 use Rattle.draft.proofs.Whole.{draft-exact}
 
@@ -81,10 +81,14 @@ delivered d x file end before after (Ok n) h w t =
     let front : length (take k file) ≡ k = length-take-le k file (omega arith) in
     let first : take n after ≡ take k file = (λ i. take (t .0 i) (t .2 i)) ∙ take-at (take k file) (drop k before) k front in
     let last : drop n after ≡ drop n before = (λ i. drop (t .0 i) (t .2 i)) ∙ drop-at (take k file) (drop k before) k front ∙ ap (λ m. drop m before) (sym (t .0)) in
-    (omega (arith, t .0, f .0), omega (arith, t .0, t .1), subst (FileOf d) (sym first) (f .1), last)
+    (omega (arith, t .0, f .0, draft-exact .long 0 d), omega (arith, t .0, t .1), subst (FileOf d) (sym first) (f .1), last)
 delivered d x file end before after (Err e) h w t =
-    (t .0, omega (arith, t .1, file-written d x file end h w .0), t .2)
+    (t .0, omega (arith, t .1, file-written d x file end h w .0, draft-exact .long 0 d), t .2)
 
 pub reads-back : (d : DraftOf) (before after : List ℕ) (r : Result ℕ Fault) → Writable d → Written d before after r → made r (λ n. readFile (take n after) ≡ Ok d)
 reads-back d before after (Ok n) f w = reads-written d (take n after) f (w .2)
 reads-back d before after (Err e) f w = tt
+
+pub rewritten : (d : DraftOf) (before after : List ℕ) (r : Result ℕ Fault) → All (λ b. b < 256) after → Written d before after r → Rewritten d before after r
+rewritten d before after (Ok n) b w file bytes h = one-file d (take n after) file (all-take (λ x. x < 256) n after b) bytes (w .2) (writes-read d file h .1)
+rewritten d before after (Err e) b w file bytes h = omega (arith, w .1, ap length (writes-read d file h .1), length-bitsOf file)

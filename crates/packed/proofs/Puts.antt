@@ -1,13 +1,13 @@
 -- Laws of bits that are written.
 use mathlib.Core.Path.{_≡_, refl, sym, ap, subst, _∙_}
 use mathlib.Core.List.{List, [], _∷_, _++_, append-nil, append-assoc}
-use Prim.Native.Nat.{ℕ, zero, suc, _+_, _-_, _*_, _/_, _%_, _^_, _<_, _≤_}
+use Prim.Native.Nat.{ℕ, zero, suc, _+_, _-_, _*_, _/_, _%_, _^_, _<_}
 use native.Mathlib.Nat.{mul-assoc, pow-suc, add-zero, add-suc, add-assoc}
 use native.Mathlib.Numerals.{add-one}
 use native.Mathlib.Omega.{arith}
 use lib.ListN.{length, getD, set, take, drop, replicate, length-append}
 use Rattle.draft.specs.File.{zeroBit}
-use Rattle.std.proofs.shelf.Bits.{pow-pos, pow-add, mod-below, div-add-mod', shr-below, shr-shr, shr-split, mod-pow-add}
+use Rattle.std.proofs.shelf.Bits.{pow-pos, pow-add, mod-below, shr-below, shr-split}
 use lib.Arith.{digits-lt}
 use Rattle.std.proofs.shelf.Lists.{replicate-more, take-at, drop-at, drop-drop}
 use Rattle.draft.specs.Bits.{field, bitsOf}

@@ -1,4 +1,4 @@
--- A delay that is fed by the sum of itself and a column, and its file.
+-- A delay that is fed by the sum of itself and a column, and its file; the file of the draft that is built in.
 use mathlib.Core.Path.{_≡_}
 use mathlib.Core.List.{List, [], _∷_}
 use Prim.Native.Nat.{ℕ}
@@ -7,6 +7,7 @@ use Rattle.std.specs.declared.result.Result.the-variants.{Ok}
 use Rattle.values.specs.declared.scalar.ValueType.the-variants.{Whole}
 use Rattle.values.specs.declared.scalar.Value.the-variants as Values
 use Rattle.draft.specs.declared.source.Source.the-variants.{Column, Block}
+use Rattle.draft.specs.Drafts.{built-in}
 use Rattle.draft.specs.File.{DraftOf, FileOf, readFile}
 
 unfoldable pub counter : DraftOf
@@ -22,3 +23,9 @@ counter-file = 0x01 ∷ 0x10 ∷ 0x40 ∷ 0x80 ∷ 0x08 ∷ 0x91 ∷ 0x81 ∷ 0x
 
 abbrev pub Counter-file : Type 0
 Counter-file = FileOf counter counter-file × (readFile counter-file ≡ Ok counter)
+
+unfoldable pub built-in-file : List ℕ
+built-in-file = 0x01 ∷ 0x00 ∷ 0x20 ∷ 0x04 ∷ 0x90 ∷ 0x80 ∷ 0x40 ∷ []
+
+abbrev pub Built-in-file : Type 0
+Built-in-file = FileOf built-in built-in-file × (readFile built-in-file ≡ Ok built-in)

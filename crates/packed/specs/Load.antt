@@ -9,9 +9,10 @@ use Rattle.blocks.specs.Library.{Library}
 use Rattle.draft.specs.declared.draft.Draft.{Draft}
 use Rattle.draft.specs.declared.fault.ReadError.{ReadError}
 use Rattle.draft.specs.declared.fault.ReadError.the-variants as Reads
-use Rattle.draft.specs.Drafts.{means}
+use Rattle.draft.specs.Drafts.{means, TheDraft}
 use Rattle.draft.specs.Faults.{readReport}
 use Rattle.draft.specs.File.{readFile}
+use Rattle.draft.specs.Refused.{FirstFault}
 use Rattle.drawing.specs.declared.drawing.Drawing.{Drawing}
 use Rattle.drawing.specs.declared.fault.CheckError.{CheckError}
 use Rattle.drawing.specs.declared.fault.CheckError.the-variants as Checks
@@ -38,13 +39,14 @@ abbrev pub fromCheck : CheckError → LoadError
 fromCheck (Checks.Fault e) = Fault (Check e)
 fromCheck Checks.NoMemory = NoMemory
 
--- the drawing is the file's draft, accepted
+-- the drawing is the one draft that the file encodes, accepted
 pub record Loads (L : Library) (bytes : List ℕ) (d : Drawing) : Type 0 where
   pub read : readFile bytes ≡ Ok (means (d .draft))
+  pub encoded : TheDraft bytes (means (d .draft))
   pub accepted : Accepts L (d .draft) d
 
 -- why nothing is loaded: the first fault of the file, or of the draft that it gives; memory may be wanting at any file
 abbrev pub Unloaded : Library → List ℕ → LoadError → Type 0
-Unloaded L bytes (Fault (Read e)) = readFile bytes ≡ Err e
+Unloaded L bytes (Fault (Read e)) = (readFile bytes ≡ Err e) × FirstFault bytes e
 Unloaded L bytes (Fault (Check e)) = (d : Draft) × (readFile bytes ≡ Ok (means d)) × First L (vec-items (d .columns)) (vec-items (d .blocks)) e
 Unloaded L bytes NoMemory = Unit {0}

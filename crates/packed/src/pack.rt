@@ -8,7 +8,7 @@ ghost use Rattle.std.specs.Vec.{made};
 ghost use Rattle.std.specs.declared.result.Result.the-variants.{Ok};
 ghost use Rattle.faults.specs.declared.fault.Fault.the-variants.{OutputShort};
 ghost use Rattle.draft.specs.Drafts.{blockMeans, means};
-ghost use Rattle.packed.specs.Written.{Written};
+ghost use Rattle.packed.specs.Written.{Written, Rewritten};
 ghost use Rattle.draft.specs.Format.{times};
 ghost use Rattle.draft.specs.File.{typeFormat, tagOf, headerFormat, columnsFormat, blockFormat, draftFormat, readFile};
 ghost use Rattle.packed.specs.Put.{Writes};
@@ -135,6 +135,7 @@ fn deliver(file: &[u8], count: usize, out: &mut [u8]) -> Result<usize, Fault>
 pub fn write_draft(draft: &Draft, out: &mut [u8]) -> Result<usize, Fault>
     ensures value { λ r. ⌜ Written (means (now (draft .entry))) (now (out .entry)) (now (out .exit)) r ⌝ }
     ensures back { λ r. ⌜ made r (λ n. readFile (take n (now (out .exit))) ≡ Ok (means (now (draft .entry)))) ⌝ }
+    ensures again { λ r. ⌜ Rewritten (means (now (draft .entry))) (now (out .entry)) (now (out .exit)) r ⌝ }
 {
     let mut file = [0u8; 2056];
     let end = pack(draft, &mut file);

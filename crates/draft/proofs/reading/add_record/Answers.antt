@@ -1,5 +1,5 @@
-use mathlib.Core.Path.{_≡_, refl, sym, ap, subst, _∙_}
-use mathlib.Core.List.{List, [], _∷_, _++_, map, append-nil}
+use mathlib.Core.Path.{_≡_, sym, ap, _∙_}
+use mathlib.Core.List.{[], _∷_, _++_, map, append-nil}
 use Rattle.std.proofs.shelf.Lists.{map-push}
 use mathlib.Core.Bool.{cond}
 use Rattle.std.specs.Of.Vec.{vec-items}

@@ -1,4 +1,4 @@
-use mathlib.Core.Path.{_≡_, sym, ap, subst, _∙_}
+use mathlib.Core.Path.{_≡_, sym, ap, subst}
 use mathlib.Core.Bool.{true}
 use mathlib.Core.List.{List}
 use Prim.Native.Nat.{ℕ}
@@ -8,7 +8,7 @@ use Rattle.values.specs.declared.scalar.Value.{Value}
 use Rattle.draft.specs.declared.source.Source.{Source}
 use Rattle.draft.specs.Limits.{every, printable, holdable, numbered}
 use Rattle.draft.specs.Records.{blockOf}
-use Rattle.draft.proofs.Bounds.{Within, block-in}
+use Rattle.draft.proofs.Bounds.{block-in}
 use Rattle.draft.proofs.reading.block_from.Needs as need
 
 pub ghost-result : need.ghost-result

@@ -1,5 +1,5 @@
-use mathlib.Core.Path.{_≡_, refl, sym, ap, subst, _∙_}
-use mathlib.Core.List.{List, [], _∷_, _++_, map}
+use mathlib.Core.Path.{ap, subst, _∙_}
+use mathlib.Core.List.{map}
 use Rattle.std.proofs.shelf.Results.{err-from-errBy}
 use Rattle.draft.specs.Drafts.{blockMeans}
 use denote.Ref.{now}
@@ -12,7 +12,7 @@ use Rattle.draft.specs.Bits.{bitsOf}
 use Rattle.draft.specs.Reading.{HandsOut}
 use Rattle.draft.proofs.Bounds.{draft-in}
 use Rattle.draft.proofs.BitLaws.{under-bitsOf}
-use Rattle.draft.proofs.RoundTrip.{writes-read}
+use Rattle.draft.proofs.RoundTrip.{the-draft, first-fault}
 use Rattle.draft.proofs.Steps.{begins, goes-on, ends, stops, fit}
 use Rattle.draft.proofs.reading.read_draft.Needs as need
 
@@ -25,7 +25,8 @@ pub returns-in-Break-part : need.returns-in-Break-part
 returns-in-Break-part c =
     let p = err-from-errBy (c .from-residual .result) (c .from-residual .ensures .1) in
     let t = c .in-Break-part .ensures tt .cases in
-    rw (p .1, p .2) (record { value = stops (c .args .file .now) _ _ _ _ _ (c .loop-blocks .inv .1) (c .loop-blocks .inv .0) _ (t .0); back = tt })
+    let e = stops (c .args .file .now) _ _ _ _ _ (c .loop-blocks .inv .1) (c .loop-blocks .inv .0) _ (t .0) in
+    rw (p .1, p .2) (record { value = e; draft = first-fault (c .args .file .now) _ e })
 
 pub add-record-requires : need.add-record-requires
 add-record-requires c κs =
@@ -56,4 +57,4 @@ pub returns : need.returns
 returns c =
     let t = c .in-Continue-part .ensures tt .cases in
     let e = ends (c .args .file .now) _ _ _ _ _ (c .loop-blocks .inv .1) (c .loop-blocks .inv .0) _ _ _ (c .in-rest .is) t in
-    record { value = e; back = writes-read _ (c .args .file .now) e .1 }
+    record { value = e; draft = the-draft (c .args .file .now) _ e }

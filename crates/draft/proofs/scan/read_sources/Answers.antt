@@ -1,11 +1,10 @@
-use mathlib.Core.Path.{_≡_, sym, ap, subst, _∙_}
-use Prim.Native.Nat.{_+_}
+use mathlib.Core.Path.{_≡_, sym}
 use native.Mathlib.Omega.{arith}
 use Rattle.std.proofs.shelf.Results.{err-from-errBy}
 use Rattle.draft.specs.declared.source.Source.the-variants.{Column}
 use Rattle.draft.specs.Bits.{bitsOf}
 use Rattle.draft.specs.File.{sourceFormat}
-use Rattle.draft.proofs.Loops.{Filled, filled-more, filled-fails, filled-all}
+use Rattle.draft.proofs.Loops.{filled-more, filled-fails, filled-all}
 use Rattle.draft.proofs.scan.read_sources.Needs as need
 
 pub returns-in-Break-sources : need.returns-in-Break-sources

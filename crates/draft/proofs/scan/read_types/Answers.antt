@@ -1,11 +1,10 @@
-use mathlib.Core.Path.{_≡_, sym, ap, subst, _∙_}
-use Prim.Native.Nat.{_+_}
+use mathlib.Core.Path.{_≡_, sym}
 use native.Mathlib.Omega.{arith}
 use Rattle.std.proofs.shelf.Results.{err-from-errBy}
 use Rattle.values.specs.declared.scalar.ValueType.the-variants.{Binary}
 use Rattle.draft.specs.Bits.{bitsOf}
 use Rattle.draft.specs.File.{typeFormat}
-use Rattle.draft.proofs.Loops.{Filled, filled-more, filled-fails, filled-all}
+use Rattle.draft.proofs.Loops.{filled-more, filled-fails, filled-all}
 use Rattle.draft.proofs.scan.read_types.Needs as need
 
 pub returns-in-Break-types : need.returns-in-Break-types

@@ -1,15 +1,14 @@
-use mathlib.Core.Path.{_≡_, refl, sym, ap, subst, _∙_}
+use mathlib.Core.Path.{_≡_, sym, ap, subst, _∙_}
 use mathlib.Core.List.{[], _∷_, _++_}
-use Prim.Native.Nat.{suc, _+_, _-_, _*_, _/_, _<_, _≤_}
+use Prim.Native.Nat.{suc, _+_, _-_, _*_, _/_, _<_}
 use native.Mathlib.Omega.{arith}
 use lib.ListN.{length, getD, take, drop, length-drop}
-use Rattle.std.specs.declared.result.Result.the-variants.{Ok, Err}
 use Rattle.std.proofs.shelf.Lists.{take-more, getD-drop}
 use Rattle.std.proofs.shelf.Results.{err-from-errBy}
 use Rattle.draft.specs.Bits.{bitsOf, valueAt}
 use Rattle.draft.specs.File.{nameByte}
 use Rattle.draft.proofs.BitLaws.{length-bitsOf}
-use Rattle.draft.proofs.Loops.{Left, left-more, left-fails, left-none}
+use Rattle.draft.proofs.Loops.{Left, left-more, left-fails}
 use Rattle.draft.proofs.Names.{byte-at, nameByte-ok}
 use Rattle.draft.proofs.scan_block.read_name.Needs as need
 

@@ -1,4 +1,4 @@
-use Rattle.drawing.specs.Faults.{JoinedBefore}
+use Rattle.drawing.specs.Tests.{JoinedBefore}
 use Rattle.drawing.proofs.checking.check_inputs.Given as given
 
 abbrev pub Inv-loop-b : given.InvT-loop-b

@@ -5,7 +5,8 @@ use Rattle.drawing.proofs.Sources.{absent-fault, type-fault, joined-more, join
 use Rattle.drawing.proofs.checking.check_sources.Needs as need
 
 pub returns-in-rest : need.returns-in-rest
-returns-in-rest c = absent-fault _ (c .args .signatures .now) (c .args .b) _ (listed (c .args .inputs)) _ (c .loop-i-test .taken) (c .loop-i .inv) _ (c .in-rest .ensures tt)
+returns-in-rest c = absent-fault _ (c .args .signatures .now) (c .args .b) _ (listed (c .args .inputs)) _ (c .loop-i-test .taken)
+    (c .loop-i .inv) _ (c .in-rest .ensures tt)
 
 pub returns-then-not-has : need.returns-then-not-has
 returns-then-not-has c =

@@ -1,5 +1,5 @@
 use Rattle.blocks.specs.Library.{listed}
-use Rattle.drawing.specs.Faults.{JoinedUpTo}
+use Rattle.drawing.specs.Tests.{JoinedUpTo}
 use Rattle.drawing.proofs.checking.check_sources.Given as given
 
 abbrev pub Inv-loop-i : given.InvT-loop-i

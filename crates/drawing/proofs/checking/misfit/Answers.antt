@@ -8,11 +8,12 @@ use Rattle.drawing.proofs.Types.{differs, agrees, all-agree}
 use Rattle.drawing.proofs.checking.misfit.Needs as need
 
 pub returns-then-not-has : need.returns-then-not-has
-returns-then-not-has c = (
-  c .loop-p-test .taken,
-  differs _ (listed (c .args .types)) _ (c .loop-p-test .taken) _ (λ e. both-ways _ refl (c .if-not-has .ensures tt .1 (e ∙ ap Some (sym (c .value-type .ensures))))),
-  c .loop-p .inv,
-)
+returns-then-not-has c = record {
+  there = c .loop-p-test .taken;
+  differs = differs _ (listed (c .args .types)) _ (c .loop-p-test .taken) _
+      (λ e. both-ways _ refl (c .if-not-has .ensures tt .1 (e ∙ ap Some (sym (c .value-type .ensures)))));
+  before = c .loop-p .inv;
+}
 
 pub loop-p-again : need.loop-p-again
 loop-p-again c =

@@ -18,7 +18,9 @@ returns-in-Break-check-block g c =
 pub loop-b-again : need.loop-b-again
 loop-b-again g c =
     fit-more (g .L·BlockLibrary .meaning (c .args .library .now)) (c .args .blocks .now) _ _ _ (c .index-blocks-b .result) (c .in-Continue-check-block .field-0)
-    (nth-read _ _ _ _ refl (c .loop-b-test .taken) (c .index-blocks-b .is)) (c .in-Continue-push .ensures tt .items) (c .loop-b .inv) (c .in-Continue-check-block .ensures tt)
+    (nth-read _ _ _ _ refl (c .loop-b-test .taken) (c .index-blocks-b .is)) (c .in-Continue-push .ensures tt .items) (c .loop-b .inv)
+    (c .in-Continue-check-block .ensures tt)
 
 pub returns : need.returns
-returns g c = fit-all (g .L·BlockLibrary .meaning (c .args .library .now)) (c .args .blocks .now) _ _ (c .loop-b-test .left) (c .loop-b .kept .b-end) (c .loop-b .inv)
+returns g c = fit-all (g .L·BlockLibrary .meaning (c .args .library .now)) (c .args .blocks .now) _ _ (c .loop-b-test .left)
+    (c .loop-b .kept .b-end) (c .loop-b .inv)

@@ -22,7 +22,8 @@ loop-s-again c k u h e =
     (λ lt. c .loop-s .inv k u lt e)
     (λ ge. let here : k ≡ c .loop-s .s-index = omega arith in
     elim (c .match-s .came) [
-      | in-Block·else-not-placed w ↦ let same : u ≡ w .in-Block .u = cc (e (Column 0), w .in-Block .is, here) in subst (λ z. In z (c .args .order .now)) (sym same) (sym (w .if-not-placed .ensures tt))
+      | in-Block·else-not-placed w ↦ let same : u ≡ w .in-Block .u = cc (e (Column 0), w .in-Block .is, here) in subst
+          (λ z. In z (c .args .order .now)) (sym same) (sym (w .if-not-placed .ensures tt))
       | in-rest w ↦ let none : _≡_ {A = ℕ} 0 1 = cc (e (Column 0), w .in-rest .is, here) in absurd (omega arith)
     ])
     (cases-lt k (c .loop-s .s-index))

@@ -1,10 +1,7 @@
-use mathlib.Core.Path.{_≡_, sym, subst}
-use Prim.Native.Nat.{_+_}
 use native.Mathlib.Omega.{arith}
 use lib.ListN.{length}
 use Rattle.draft.specs.Format.{then, times}
 use Rattle.draft.specs.File.{blockHead, blockRest, blockParams, blockName, sourceFormat, paramFormat, paddingFormat, nameByte}
-use Rattle.packed.specs.Put.{Writes}
 use Rattle.draft.proofs.Exact.{times-exact}
 use Rattle.draft.proofs.FileLaws.{head-exact, source-exact, padding-exact}
 use Rattle.draft.proofs.Params.{param-exact}

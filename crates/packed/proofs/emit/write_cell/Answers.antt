@@ -1,9 +1,9 @@
-use mathlib.Core.Path.{_≡_, refl, sym, ap, subst, _∙_}
-use Prim.Native.Nat.{ℕ, _+_}
+use mathlib.Core.Path.{refl, ap, subst}
+use Prim.Native.Nat.{_+_}
 use native.Mathlib.Omega.{arith}
 use Rattle.draft.specs.Bits.{field, bitsOf}
 use Rattle.draft.specs.File.{typeFormat, pattern, cellParts}
-use Rattle.packed.specs.Put.{Put, Writes}
+use Rattle.packed.specs.Put.{Put}
 use Rattle.draft.proofs.FileLaws.{type-exact}
 use Rattle.packed.proofs.Puts.{writes-then}
 use Rattle.packed.proofs.emit.write_cell.Needs as need

@@ -1,4 +1,4 @@
-use mathlib.Core.Path.{_≡_, subst}
+use mathlib.Core.Path.{subst}
 use Rattle.values.specs.declared.packed.Cell.{Cell}
 use Rattle.draft.specs.File.{cellFormat}
 use Rattle.packed.specs.Put.{Writes}

@@ -15,4 +15,4 @@ returns c =
     let z = c .put-field-2 .last .out in
     let end : at + 8 ≡ at + 1 + 7 = omega arith in
     subst (λ (P : ℕ × ℕ). Writes (then (free 1) (λ _. free 7)) P x z at (at + 8)) (c .source-parts-is-block .ensures)
-    (writes-then (free 1) (λ _. free 7) (free-exact 1 (omega arith)) _ _ x (c .put-field .last .out) z at (at + 1) (at + 8) (c .put-field .ensures, refl) (c .put-field-2 .ensures, end))
+    (writes-then (free 1) (λ _. free 7) (free-exact 1 (omega arith) (omega arith)) _ _ x (c .put-field .last .out) z at (at + 1) (at + 8) (c .put-field .ensures, refl) (c .put-field-2 .ensures, end))

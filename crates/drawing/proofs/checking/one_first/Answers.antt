@@ -1,5 +1,0 @@
-use Rattle.drawing.proofs.Unique.{one-first}
-use Rattle.drawing.proofs.checking.one_first.Needs as need
-
-pub returns : need.returns
-returns c = one-first

@@ -1,0 +1,2 @@
+pub mod Inverters
+pub mod Accepted

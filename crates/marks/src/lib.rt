@@ -1,0 +1,4 @@
+// Marks: cycles by name.
+mod table;
+
+pub use table::MarkTable;

@@ -1,0 +1,5 @@
+pub mod Order
+pub mod Orders
+pub mod Entries
+pub mod Search
+pub mod Table
