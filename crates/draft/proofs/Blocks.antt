@@ -9,9 +9,9 @@ use Rattle.std.specs.declared.result.Result.the-variants.{Ok}
 use Rattle.draft.specs.declared.source.Source.{Source}
 use Rattle.values.specs.declared.scalar.Value.{Value}
 use Rattle.values.specs.declared.scalar.ValueType.{ValueType}
-use Rattle.draft.specs.Format.{Format, bind, then, times, via, readAll, sizeAll}
+use Rattle.draft.specs.Format.{Format, bind, then, times, readAll, sizeAll}
 use Rattle.draft.specs.File.{blockHead, blockName, blockParams, blockRest, toBlock, fromBlock, blockFormat, sourceFormat, paramFormat, paddingFormat, nameByte, typeFormat, columnsFormat}
-use Rattle.draft.proofs.Exact.{bind-ok}
+use Rattle.draft.proofs.Binds.{bind-ok}
 use Rattle.draft.proofs.Loops.{then-ok, via-ok}
 
 pub four : {A : Type 0} (xs : List A) (d : A) → length xs ≡ 4 → getD xs 0 d ∷ getD xs 1 d ∷ getD xs 2 d ∷ getD xs 3 d ∷ [] ≡ xs

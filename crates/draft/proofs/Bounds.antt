@@ -4,13 +4,13 @@ use mathlib.Core.Bool.{Bool, true, false, _&&_}
 use mathlib.Core.List.{List, [], _∷_}
 use Prim.Native.Nat.{ℕ, _<_, _≤_}
 use native.Mathlib.Omega.{arith}
-use lib.Dec.{T, leb, ltb}
+use lib.Dec.{T, leb}
 use lib.Ieee.{binary32, fits, ofBits, toBits}
 use lib.Ieee.Bits.{ofBits-toBits, toBits-lt, ofBits-fits, is-true}
 use lib.ListN.{length}
 use lib.Signed.{mag}
 use mir.Syntax.{w16}
-use mir.Val.{SFits, Fits, toZ, ofZ}
+use mir.Val.{SFits, toZ, ofZ}
 use mir.Facts.{sfits-toZ, fits-ofZ, toZ-ofZ}
 use borrow.Author.Tests.{clash, ltb-true, lt-ltb, leb-true, le-leb}
 use Rattle.std.specs.Floats.{finite as isFinite}
@@ -20,7 +20,7 @@ use Rattle.values.specs.declared.scalar.Value.the-variants as Values
 use Rattle.draft.specs.declared.source.Source.{Source}
 use Rattle.draft.specs.declared.source.Source.the-variants as Sources
 use Rattle.draft.specs.Limits.{every, printable, holdable, numbered}
-use Rattle.draft.specs.File.{BlockOf, DraftOf, sourceFormat, paramFormat, cellFormat, nameByte, blockFormat, readFile, finite}
+use Rattle.draft.specs.File.{BlockOf, DraftOf, sourceFormat, paramFormat, cellFormat, nameByte, blockFormat, readFile}
 use Rattle.std.specs.declared.result.Result.the-variants.{Ok}
 use Rattle.draft.proofs.Params.{finite-bits}
 use Rattle.draft.proofs.RoundTrip.{writes-read}

@@ -1,6 +1,6 @@
 -- Formats that read a value exactly where its bits stand.
 use mathlib.Core.Path.{_≡_, refl, sym, ap, subst, _∙_}
-use mathlib.Core.Logic.{_⊎_, inl, inr}
+use mathlib.Core.Logic.{inl, inr}
 use mathlib.Core.Bool.{Bool, true, false, cond}
 use mathlib.Core.List.{List, [], _∷_}
 use Prim.Native.Nat.{ℕ, zero, suc, _+_, _-_, _^_, _<_, _≤_}
@@ -8,8 +8,6 @@ use native.Mathlib.Omega.{arith}
 use lib.Dec.{leb}
 use lib.ListN.{length, take, length-append}
 use borrow.Author.Tests.{leb-true, leb-false}
-use Rattle.std.specs.Vec.{Every as All}
-use Rattle.std.specs.declared.result.Result.{Result}
 use Rattle.std.specs.declared.result.Result.the-variants.{Ok, Err}
 use Rattle.std.specs.shelf.Digits.{Under}
 use Rattle.draft.specs.declared.fault.ReadFault.{ReadFault}
@@ -18,6 +16,7 @@ use Rattle.draft.specs.Bits.{field, valueAt}
 use Rattle.draft.specs.Format.{Format, Stands, bind, readField, number, then, times, via, bitsAll, sizeAll, readAll}
 use Rattle.draft.specs.Refused.{placeOf, Field, Shows}
 use Rattle.draft.proofs.BitLaws.{length-field}
+use Rattle.draft.proofs.Binds.{bind-ok, bind-err, tested, failed}
 use Rattle.draft.proofs.Fields.{stands-first, stands-second, stands-both, stands-within, stands-room, stands-none, stands-front, stands-after, valueAt-lt, valueAt-field, field-valueAt, readField-whole}
 
 -- a value at p is refused: up to the place of the fault some other stands there, and the fault shows
@@ -36,22 +35,6 @@ pub record Exact {A : Type 0} (F : Format A) : Type 0 where
   pub sound : (file : List ℕ) (p : ℕ) (a : A) → Under 2 file → F .read file p ≡ Ok a → F .fits a × Stands file p (F .bits p a)
   pub whole : (file : List ℕ) (p : ℕ) (a : A) → F .fits a → Stands file p (F .bits p a) → F .read file p ≡ Ok a
   pub first : (file : List ℕ) (p : ℕ) (e : ReadFault) → Under 2 file → p ≤ length file → F .read file p ≡ Err e → Refused F file p e
-
-pub bind-ok : {A B : Type 0} (r : Result A ReadFault) (k : A → Result B ReadFault) (b : B) → bind r k ≡ Ok b → (a : A) × (r ≡ Ok a) × (k a ≡ Ok b)
-bind-ok (Ok a) k b h = (a, refl, h)
-bind-ok (Err e) k b h = let z : _≡_ {A = ℕ} 0 1 = cc in absurd (omega arith)
-
-pub bind-err : {A B : Type 0} (r : Result A ReadFault) (k : A → Result B ReadFault) (e : ReadFault) → bind r k ≡ Err e → (r ≡ Err e) ⊎ ((a : A) × (r ≡ Ok a) × (k a ≡ Err e))
-bind-err (Ok a) k e h = inr (a, refl, h)
-bind-err (Err d) k e h = let same : d ≡ e = cc in inl (ap Err same)
-
-pub tested : {A : Type 0} (t : Bool) (v a : A) (e : ReadFault) → cond t (Ok v) (Err e) ≡ Ok a → (t ≡ true) × (v ≡ a)
-tested true v a e h = (refl, cc)
-tested false v a e h = let z : _≡_ {A = ℕ} 0 1 = cc in absurd (omega arith)
-
-pub failed : {A : Type 0} (t : Bool) (v : A) (d e : ReadFault) → cond t (Ok v) (Err d) ≡ Err e → (t ≡ false) × (d ≡ e)
-failed true v d e h = let z : _≡_ {A = ℕ} 0 1 = cc in absurd (omega arith)
-failed false v d e h = (refl, cc)
 
 -- a value of w bits, where what fails the test shows
 module _ (w : ℕ) (test : ℕ → Bool) (fault : ℕ → ReadFault) (some : 0 < w) (few : w ≤ 32) (v : ℕ) (fit : (v < 2 ^ w) × (test v ≡ true)) where

@@ -1,6 +1,5 @@
 -- What stands at a bit of a file, and the number in a field there.
 use mathlib.Core.Path.{_≡_, refl, sym, ap, subst, _∙_}
-use mathlib.Core.Bool.{true, false, cond}
 use mathlib.Core.List.{List, [], _∷_, _++_}
 use Prim.Native.Nat.{ℕ, suc, _+_, _-_, _*_, _^_, min, _<_, _≤_}
 use native.Mathlib.Omega.{arith}

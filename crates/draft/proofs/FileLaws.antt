@@ -8,7 +8,6 @@ use lib.Dec.{leb, eqb}
 use lib.Pow.{pow-pos}
 use lib.ListN.{length, replicate}
 use mir.Syntax.{w16}
-use mir.Val.{toZ, ofZ}
 use mir.Facts.{ofZ-toZ}
 use mathlib.Core.Logic.{inl, inr}
 use borrow.Author.Tests.{eqb-true, eqb-false, leb-false, le-leb, clash}
@@ -20,7 +19,7 @@ use Rattle.values.specs.declared.scalar.ValueType.{ValueType}
 use Rattle.values.specs.declared.scalar.ValueType.the-variants.{Binary, Whole, Real}
 use Rattle.values.specs.declared.packed.Cell.the-variants as Cells
 use Rattle.draft.specs.Bits.{valueAt}
-use Rattle.draft.specs.Format.{Format, number, then, times, via}
+use Rattle.draft.specs.Format.{times}
 use Rattle.draft.specs.File.{edition, upTo, free, blockCount, tag, pattern, zeroBit, zerosFormat, gap, paddingFormat, headerFormat, typeFrom, tagOf, typeFormat, columnsFormat, sourceOf, sourceParts, sourceFormat, widthOf, cellFrom, cellParts, cellFormat, nameByte, blockHead}
 use Rattle.draft.specs.Refused.{Field, Shows}
 use Rattle.draft.proofs.Exact.{Exact, number-exact, then-exact, times-exact, via-exact}

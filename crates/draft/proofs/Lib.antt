@@ -1,3 +1,4 @@
+pub mod Binds
 pub mod BitLaws
 pub mod Blocks
 pub mod Bounds

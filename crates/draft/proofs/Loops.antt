@@ -5,16 +5,12 @@ use Prim.Native.Nat.{ℕ, zero, suc, _+_, _-_, _<_, _≤_}
 use native.Mathlib.Omega.{arith}
 use native.Mathlib.Nat.{add-assoc}
 use lib.ListN.{length, set, take, drop, replicate, length-set}
-use Rattle.std.specs.declared.result.Result.{Result}
 use Rattle.std.specs.declared.result.Result.the-variants.{Ok, Err}
 use Rattle.draft.specs.declared.fault.ReadFault.{ReadFault}
 use Rattle.std.proofs.shelf.Lists.{take-more-set, drop-set-lt, drop-replicate, drop-drop}
 use Rattle.draft.specs.Format.{Format, bind, readAll, sizeAll, then, via, ReadsArray}
 use Rattle.draft.specs.File.{zeroBit, zerosFormat}
-
-pub bind-bind : {A B C : Type 0} (r : Result A ReadFault) (k : A → Result B ReadFault) (l : B → Result C ReadFault) → bind (bind r k) l ≡ bind r (λ a. bind (k a) l)
-bind-bind (Ok a) k l = refl
-bind-bind (Err e) k l = refl
+use Rattle.draft.proofs.Binds.{bind-bind}
 
 module _ {A : Type 0} (F : Format A) (file : List ℕ) where
   -- of the n values at p, m are left, at q, and xs are read

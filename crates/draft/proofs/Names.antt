@@ -15,7 +15,7 @@ use Rattle.draft.specs.Bits.{field, bitsOf, valueAt}
 use Rattle.draft.specs.Format.{readField}
 use Rattle.draft.specs.File.{nameByte}
 use Rattle.draft.proofs.BitLaws.{number-field}
-use Rattle.draft.proofs.Exact.{bind-ok, tested}
+use Rattle.draft.proofs.Binds.{bind-ok, tested}
 
 pub byte-at : (bs : List ℕ) (q : ℕ) → q < length bs → getD bs q 0 < 256 → valueAt (bitsOf bs) (8 * q) 8 ≡ getD bs q 0
 unfolding valueAt bitsOf

@@ -18,7 +18,7 @@ use Rattle.draft.specs.declared.fault.ReadFault.{ReadFault}
 use Rattle.draft.specs.Format.{Format, bind, via, readAll, sizeAll, ReadsArray, ReadsArrayAs}
 use Rattle.draft.specs.File.{cellFormat, paramFormat, finite}
 use Rattle.draft.proofs.Exact.{Exact, via-exact}
-use Rattle.draft.proofs.Loops.{bind-bind}
+use Rattle.draft.proofs.Binds.{bind-bind}
 use Rattle.draft.proofs.FileLaws.{cell-exact}
 
 module _ {A B : Type 0} (to : A → B) (from : B → A) (F : Format A) (same : (p : ℕ) (a : A) → F .size p (from (to a)) ≡ F .size p a) where

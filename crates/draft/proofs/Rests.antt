@@ -1,6 +1,6 @@
 -- What is left to read of a file at each stage of the reader.
 use mathlib.Core.Path.{_≡_, refl, sym, ap, _∙_}
-use mathlib.Core.Bool.{true, false, cond}
+use mathlib.Core.Bool.{cond}
 use mathlib.Core.List.{List, [], _∷_, _++_, append-nil, append-assoc}
 use Prim.Native.Nat.{ℕ, suc, _+_, _-_, _≤_}
 use native.Mathlib.Nat.{add-assoc}
@@ -18,7 +18,7 @@ use Rattle.draft.specs.declared.record.Header.{Header}
 use Rattle.draft.specs.Bits.{bitsOf}
 use Rattle.draft.specs.Format.{bind, readAll, sizeAll}
 use Rattle.draft.specs.File.{BlockOf, DraftOf, headerFormat, columnsFormat, blockFormat, draftFormat, draftRest, toDraft, readFile}
-use Rattle.draft.proofs.Loops.{bind-bind}
+use Rattle.draft.proofs.Binds.{bind-bind}
 
 -- the draft, where nothing follows the bit q
 abbrev pub ended : List ℕ → ℕ → List ValueType → List BlockOf → Result DraftOf ReadFault

@@ -1,6 +1,6 @@
 -- Files and drawings match both ways.
 use mathlib.Core.Path.{_≡_, refl, sym, ap, subst, _∙_}
-use mathlib.Core.Bool.{true, false, cond}
+use mathlib.Core.Bool.{false, cond}
 use mathlib.Core.List.{List, [], _∷_}
 use Prim.Native.Nat.{ℕ, _-_, _<_, _≤_}
 use native.Mathlib.Omega.{arith}
@@ -14,13 +14,13 @@ use Rattle.std.proofs.shelf.Lists.{take-all, length-take-le}
 use Rattle.std.specs.declared.result.Result.the-variants.{Ok, Err}
 use Rattle.draft.specs.declared.fault.ReadFault.{ReadFault}
 use Rattle.draft.specs.declared.fault.ReadFault.the-variants.{LeftOver}
-use Rattle.draft.specs.Bits.{field, bitsOf}
+use Rattle.draft.specs.Bits.{bitsOf}
 use Rattle.draft.specs.Format.{bind}
 use Rattle.draft.specs.File.{DraftOf, draftFormat, readFile, Writable, Reads-what-is-written, Writes-what-is-read, One-file}
 use Rattle.draft.specs.Refused.{placeOf, Shows, Refusals-tell-the-first-fault}
 use Rattle.draft.specs.Drafts.{TheDraft}
 use Rattle.draft.proofs.BitLaws.{under-bitsOf, number-field}
-use Rattle.draft.proofs.Exact.{bind-ok, bind-err, tested, failed}
+use Rattle.draft.proofs.Binds.{bind-ok, bind-err, tested, failed}
 use Rattle.draft.proofs.Whole.{draft-exact}
 
 pub reads-written : Reads-what-is-written

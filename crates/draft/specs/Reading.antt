@@ -9,7 +9,6 @@ use Rattle.std.specs.declared.option.Option.the-variants.{Some, None}
 use Rattle.std.specs.declared.result.Result.the-variants.{Ok, Err}
 use Rattle.draft.specs.declared.fault.ReadFault.{ReadFault}
 use Rattle.draft.specs.declared.fault.ReadFault.the-variants.{LeftOver}
-use Rattle.draft.specs.declared.record.Header.{Header}
 use Rattle.draft.specs.declared.record.Record.{Record}
 use Rattle.draft.specs.declared.record.Record.the-variants.{Header as HeaderRecord, Columns, Block}
 use Rattle.draft.specs.declared.record.Stage.{Stage}

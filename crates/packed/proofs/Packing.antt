@@ -14,7 +14,7 @@ use Rattle.packed.specs.Written.{Written, Rewritten}
 use Rattle.values.specs.declared.scalar.ValueType.{ValueType}
 use Rattle.draft.specs.declared.record.Header.{Header}
 use Rattle.draft.specs.Bits.{field, bitsOf}
-use Rattle.draft.specs.Format.{then, times, sizeAll}
+use Rattle.draft.specs.Format.{times, sizeAll}
 use Rattle.draft.specs.File.{BlockOf, DraftOf, gap, typeFormat, paddingFormat, sourceFormat, paramFormat, headerFormat, columnsFormat, blockFormat, draftRest, draftFormat, FileOf, Writable, readFile}
 use Rattle.packed.specs.Put.{Writes}
 use Rattle.draft.proofs.BitLaws.{length-bitsOf}

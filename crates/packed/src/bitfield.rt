@@ -4,7 +4,6 @@ ghost use Rattle.draft.specs.Bits.{field, bitsOf};
 ghost use Rattle.packed.specs.Put.{Put};
 ghost use lib.ListN.{length};
 ghost use mathlib.Core.List.{[], _∷_};
-ghost use mathlib.Core.Path.{_≡_};
 
 // Writes one bit, and leaves the others.
 pub(crate) fn put_bit(out: &mut [u8], i: usize, bit: u32)

@@ -1,4 +1,4 @@
-use mathlib.Core.Path.{refl, ap}
+use mathlib.Core.Path.{refl}
 use mathlib.Core.List.{map}
 use lib.ListN.{take}
 use Rattle.values.specs.Packed.{valueOf}

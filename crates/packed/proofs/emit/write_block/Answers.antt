@@ -1,6 +1,6 @@
 use native.Mathlib.Omega.{arith}
 use lib.ListN.{length}
-use Rattle.draft.specs.Format.{then, times}
+use Rattle.draft.specs.Format.{times}
 use Rattle.draft.specs.File.{blockHead, blockRest, blockParams, blockName, sourceFormat, paramFormat, paddingFormat, nameByte}
 use Rattle.draft.proofs.Exact.{times-exact}
 use Rattle.draft.proofs.FileLaws.{head-exact, source-exact, padding-exact}
