@@ -1,8 +1,10 @@
-// Runs a table of files, good and damaged, through load, and prints what becomes of each.
-// The table has a line for each file: a label, and the file's bytes in hexadecimal.
+// Runs two tables of files and prints what becomes of each: good and damaged ones through load, random ones through the
+// reader. A table has a line for each file: a label, and the file's bytes in hexadecimal.
 mod hex;
 mod rewriting;
 
+use draft::ReadError;
+use draft::read_draft;
 use faults::Report;
 use hex::bytes_of;
 use packed::LoadError;
@@ -21,15 +23,32 @@ fn print_report(rt: &LibcRuntime, report: Report) -> io::Result<()> {
     print!(rt, "refused {number} layer {layer} at {a} {b}")
 }
 
-fn print_case(rt: &LibcRuntime, label: &str, digits: &str) -> io::Result<()> {
+fn print_load(rt: &LibcRuntime, file: &[u8]) -> io::Result<()> {
+    match load(rt.alloc(), &Plant, file) {
+        Ok(_) => print!(rt, "ok"),
+        Err(LoadError::Fault(fault)) => print_report(rt, fault.report()),
+        Err(LoadError::NoMemory) => Err(AllocError.into()),
+    }
+}
+
+fn print_reading(rt: &LibcRuntime, file: &[u8]) -> io::Result<()> {
+    match read_draft(rt.alloc(), file) {
+        Ok(_) => print!(rt, "reads"),
+        Err(ReadError::Fault(fault)) => print_report(rt, fault.report()),
+        Err(ReadError::NoMemory) => Err(AllocError.into()),
+    }
+}
+
+fn print_case(rt: &LibcRuntime, line: &str, loads: bool) -> io::Result<()> {
+    let (label, digits) = line.split_once(' ').unwrap_or((line, ""));
     let Some(file) = bytes_of(rt.alloc(), digits.as_bytes())? else {
         return println!(rt, "{label} is not hexadecimal");
     };
     print!(rt, "{label} ")?;
-    match load(rt.alloc(), &Plant, &file) {
-        Ok(_) => print!(rt, "ok")?,
-        Err(LoadError::Fault(fault)) => print_report(rt, fault.report())?,
-        Err(LoadError::NoMemory) => return Err(AllocError.into()),
+    if loads {
+        print_load(rt, &file)?;
+    } else {
+        print_reading(rt, &file)?;
     }
     match rewritten(rt.alloc(), &file)? {
         Some(true) => println!(rt, " same"),
@@ -39,10 +58,13 @@ fn print_case(rt: &LibcRuntime, label: &str, digits: &str) -> io::Result<()> {
 }
 
 fn main(rt: LibcRuntime) -> io::Result<()> {
-    let table = fs::read_to_string(&rt, "cases.txt")?;
-    for line in table.lines() {
-        let (label, digits) = line.split_once(' ').unwrap_or((line, ""));
-        print_case(&rt, label, digits)?;
+    let cases = fs::read_to_string(&rt, "cases.txt")?;
+    for line in cases.lines() {
+        print_case(&rt, line, true)?;
+    }
+    let random = fs::read_to_string(&rt, "random.txt")?;
+    for line in random.lines() {
+        print_case(&rt, line, false)?;
     }
     Ok(())
 }
