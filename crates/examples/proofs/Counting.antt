@@ -1,65 +1,62 @@
--- The counter, cycle by cycle: a delay that starts at 5, fed by the sum of itself and a column.
-use Rattle.std.proofs.Common.{◌≡◌, ℕ, zero, suc, ◌<◌, ◌≤◌, List, [], ◌∷◌, map, get_or, Some, ap, ◌∙◌, arith}
+-- The counter, cycle by cycle.
+use Rattle.std.proofs.Common.{◌≡◌, ℕ, zero, suc, List, [], ◌∷◌, map, get_or, pos, Some, vec_items, sym, refl, ap, ◌∙◌, subst}
 use Rattle.values.specs.declared.scalar.State.{State}
 use Rattle.values.specs.declared.scalar.Value.{Value}
+use Rattle.values.specs.declared.scalar.Value.TheVariants.{Whole}
 use Rattle.values.specs.declared.scalar.ValueType.TheVariants as T
 use Rattle.values.specs.Values.{absent, idle, coerce}
 use Rattle.plant.specs.Plant.{plant}
+use Rattle.draft.specs.declared.source.Source.{Source}
 use Rattle.draft.specs.declared.source.Source.TheVariants.{Column, Block as Output}
 use Rattle.draft.specs.declared.draft.Block.{Block}
-use Rattle.draft.specs.Drafts.{block_means}
-use Rattle.draft.specs.File.{BlockOf}
 use Rattle.walk.specs.Cycle.{read, shown, out_at, next_at, first_at, Solves}
 use Rattle.walk.specs.Walk.{Walks, start, pass, Finds}
-use Rattle.examples.specs.Demonstration.{whole}
+use Rattle.examples.specs.Counter.{Is, cell, Counts}
 
--- what the delay holds at a cycle, by the column
-unfoldable pub trace : (ℕ → Value) → ℕ → Value
-trace column zero = whole 5
-trace column (suc c) = coerce T.Whole (plant.out 11 [] idle (coerce T.Whole (trace column c) ∷ column c ∷ []))
+-- what the delay holds at a cycle
+trace : ℕ → Value
+trace zero = Whole (pos 5)
+trace (suc c) = coerce T.Whole (plant.out 11 [] idle (coerce T.Whole (trace c) ∷ (cell c ∷ [])))
 
-unfoldable pub kept : Value → State
+kept : Value → State
 kept v = record { value = v; count = 0 }
 
--- the functions of a block by what it means
-module _ (b : Block) (m : BlockOf) (is : block_means b ≡ m) where
-  first_by : first_at plant (Some b) ≡ plant.first m.kind m.params
+-- the functions of a block by its kind, parameters and sources
+module _ (b : Block) (k : ℕ) (ps : List Value) (srcs : List Source) (is : Is b k ps srcs) where
+  first_by : first_at plant (Some b) ≡ plant.first k ps
   unfolding first_at
-  first_by = ap (λ (k : BlockOf). plant.first k.kind k.params) is
+  first_by = ap (λ n. plant.first n (vec_items b.params)) is.kind_is ∙ ap (plant.first k) is.params_are
 
   module _ (s : State) (row : List Value) (x : ℕ → Value) where
-    out_by_lem : out_at plant (Some b) s row x ≡ plant.out m.kind m.params s (map (read row x) m.sources)
+    out_by_lem : out_at plant (Some b) s row x ≡ plant.out k ps s (map (read row x) srcs)
     unfolding out_at
-    out_by_lem = ap (λ (k : BlockOf). plant.out k.kind k.params s (map (read row x) k.sources)) is
+    out_by_lem = ap (λ n. plant.out n (vec_items b.params) s (map (read row x) (vec_items b.sources))) is.kind_is
+        ∙ ap (λ p. plant.out k p s (map (read row x) (vec_items b.sources))) is.params_are ∙ ap (λ l. plant.out k ps s (map (read row x) l)) is.sources_are
 
-    next_by_lem : next_at plant (Some b) s row x ≡ plant.next m.kind m.params s (map (read row x) m.sources)
+    next_by_lem : next_at plant (Some b) s row x ≡ plant.next k ps s (map (read row x) srcs)
     unfolding next_at
-    next_by_lem = ap (λ (k : BlockOf). plant.next k.kind k.params s (map (read row x) k.sources)) is
+    next_by_lem = ap (λ n. plant.next n (vec_items b.params) s (map (read row x) (vec_items b.sources))) is.kind_is
+        ∙ ap (λ p. plant.next k p s (map (read row x) (vec_items b.sources))) is.params_are ∙ ap (λ l. plant.next k ps s (map (read row x) l)) is.sources_are
 
-abbrev pub delay_of_lem : List ℕ → BlockOf
-delay_of_lem name = record { kind = 2; sources = Output 1 ∷ []; params = whole 5 ∷ []; name = name }
-
-abbrev pub sum_of : List ℕ → BlockOf
-sum_of name = record { kind = 11; sources = Output 0 ∷ Column 0 ∷ []; params = []; name = name }
-
-module _ (d a : Block) (n k : List ℕ) (delay : block_means d ≡ delay_of_lem n) (sum : block_means a ≡ sum_of k) (rows : ℕ → List Value)
-    (column : ℕ → Value) (end : ℕ) (reads : (c : ℕ) → c < end → get_or (rows c) 0 absent ≡ column c) where
-  module _ (c : ℕ) (states : List State) (vs : List Value) (s : Solves plant (d ∷ a ∷ []) states (rows c) vs) (held : get_or states 0 idle ≡ kept (trace column c)) where
-    shows : get_or vs 0 absent ≡ coerce T.Whole (trace column c)
+module _ (d a : Block) (delay : Is d 2 (Whole (pos 5) ∷ []) (Output 1 ∷ [])) (sum : Is a 11 [] (Output 0 ∷ (Column 0 ∷ []))) (rows : ℕ → List Value) (column : (c : ℕ) → get_or (rows c) 0 absent ≡ cell c) where
+  module _ (c : ℕ) (states : List State) (vs : List Value) (s : Solves plant (d ∷ (a ∷ [])) states (rows c) vs) (held : get_or states 0 idle ≡ kept (trace c)) where
+    shows : get_or vs 0 absent ≡ coerce T.Whole (trace c)
     unfolding kept
-    shows = s.each 0 ∙ out_by_lem d (delay_of_lem n) delay (get_or states 0 idle) (rows c) (shown vs) ∙ ap (λ (t : State). coerce T.Whole t.value) held
+    shows = s.each 0 ∙ out_by_lem d 2 _ _ delay (get_or states 0 idle) (rows c) (shown vs) ∙ ap (λ (t : State). coerce T.Whole t.value) held
 
-    sums : c < end → get_or vs 1 absent ≡ plant.out 11 [] idle (coerce T.Whole (trace column c) ∷ column c ∷ [])
-    sums inside = s.each 1 ∙ out_by_lem a (sum_of k) sum (get_or states 1 idle) (rows c) (shown vs)
-        ∙ ap (λ v. plant.out 11 [] idle (v ∷ get_or (rows c) 0 absent ∷ [])) shows
-        ∙ ap (λ v. plant.out 11 [] idle (coerce T.Whole (trace column c) ∷ v ∷ [])) (reads c inside)
+    sums : get_or vs 1 absent ≡ plant.out 11 [] idle (coerce T.Whole (trace c) ∷ (cell c ∷ []))
+    sums = s.each 1 ∙ out_by_lem a 11 _ _ sum (get_or states 1 idle) (rows c) (shown vs)
+        ∙ ap (λ v. plant.out 11 [] idle (v ∷ (get_or (rows c) 0 absent ∷ []))) shows ∙ ap (λ v. plant.out 11 [] idle (coerce T.Whole (trace c) ∷ (v ∷ []))) (column c)
 
-  pub holds : {c : ℕ} {states : List State} → Walks plant (d ∷ a ∷ []) rows c states → c ≤ end → get_or states 0 idle ≡ kept (trace column c)
+  holds : {c : ℕ} {states : List State} → Walks plant (d ∷ (a ∷ [])) rows c states → get_or states 0 idle ≡ kept (trace c)
   unfolding kept trace
-  holds (start b) low = b.each 0 ∙ first_by d (delay_of_lem n) delay
-  holds (pass {c = c} {states = states} {values = vs} w s p) low =
-      p.each 0 ∙ next_by_lem d (delay_of_lem n) delay (get_or states 0 idle) (rows c) (shown vs)
-      ∙ ap (λ v. kept (coerce T.Whole v)) (sums c states vs s (holds w (omega arith)) (omega arith))
+  holds (start b) = b.each 0 ∙ first_by d 2 _ _ delay
+  holds (pass {c = c} {states = states} {values = vs} w s p) =
+      p.each 0 ∙ next_by_lem d 2 _ _ delay (get_or states 0 idle) (rows c) (shown vs) ∙ ap (λ v. kept (coerce T.Whole v)) (sums c states vs s (holds w))
 
-  pub counts : (c : ℕ) → c ≤ end → (vs : List Value) → Finds plant (d ∷ a ∷ []) rows c vs → get_or vs 0 absent ≡ coerce T.Whole (trace column c)
-  counts c low vs f = shows c f.states vs f.solved (holds f.walked low)
+at_57 : coerce T.Whole (trace 57) ≡ Whole (pos 45)
+unfolding trace
+at_57 = refl
+
+pub counts : Counts
+counts d a delay sum rows column vs f = shows d a delay sum rows column 57 f.states vs f.solved (holds d a delay sum rows column f.walked) ∙ at_57

@@ -1,16 +1,16 @@
 -- How many rows a table holds: the cycles of its entries, each once. Assumes nothing.
-use Rattle.std.proofs.Common.{◌≡◌, ℕ, Bool, true, false, cond, not, ◌||◌, eqb, ltb, List, [], ◌∷◌, map, length, is_some, Some, None, Option, sym, refl, ap, ◌∙◌, arith}
+use Rattle.std.proofs.Common.{◌≡◌, ℕ, Bool, true, false, cond, not, ◌||◌, eqb, ltb, List, [], ◌∷◌, map, is_some, Some, Option, sym, refl, ap, ◌∙◌, arith}
 use lib.ListN.{length-map}
 use Rattle.std.specs.List.{list_all}
 use Rattle.std.specs.Map.Invariant.{is-distinct}
-use Rattle.std.proofs.lemmas.Bool.{and_parts, and_from, eq-eqb}
+use Rattle.std.proofs.lemmas.Bool.{and_parts, and_from}
 use Rattle.std.proofs.lemmas.Bool.Decides.{nat_tests}
 use Rattle.values.specs.declared.working.Row.{Row}
 use Rattle.ordered.specs.declared.entry.Entry.{Entry}
 use Rattle.ordered.specs.Entries.{ascending, at, level}
 use Rattle.ordered.specs.Table.{items}
 use Rattle.keyframes.specs.declared.table.TableStore.{TableStore}
-use Rattle.keyframes.specs.Frames.{among, Counts, Emptied}
+use Rattle.keyframes.specs.Frames.{among, Counts}
 use Rattle.keyframes.specs.Tables.{table_frames, count}
 
 level_eqb : (c d : ℕ) → level ltb c d ≡ eqb d c
@@ -43,18 +43,6 @@ once_each (e ∷ es) h =
     let p = and_parts (list_all (λ f. ltb e.key f.key) es) (ascending ltb es) h in
     and_from (list_all (λ d. not (eqb e.key d)) (cycles_of es)) (is-distinct eqb (cycles_of es))
     (apart e.key es p.0) (once_each es p.1)
-
--- where no cycle has a row there is no entry
-none_held : (es : List (Entry ℕ Row)) → ((c : ℕ) → at ltb es c ≡ None) → es ≡ []
-none_held [] h = refl
-none_held (e ∷ es) h =
-    let here : cond (eqb e.key e.key) (Some e.value) (at ltb es e.key) ≡ None = ap (λ b. cond b (Some e.value) (at ltb es e.key)) (sym (level_eqb e.key e.key)) ∙ h e.key in
-    let own : eqb e.key e.key ≡ true = eq-eqb e.key e.key refl in
-    let z : ◌≡◌ {A = ℕ} 0 1 = cc in
-    absurd (omega arith)
-
-pub none_counted : (t : TableStore) → Emptied (table_frames t) → count t ≡ 0
-none_counted t h = ap length (none_held (items t.rows) h)
 
 pub counted : (t : TableStore) (n : ℕ) → n ≡ count t → Counts (table_frames t) n
 counted t n e = record {

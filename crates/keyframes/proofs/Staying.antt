@@ -1,5 +1,5 @@
 -- Right rows stay right. Assumes nothing.
-use Rattle.std.proofs.Common.{◌≡◌, ℕ, suc, ◌≤◌, Bool, true, false, cond, Some, None, sym, refl, ap, ◌∙◌, subst, ⊎_elim, arith}
+use Rattle.std.proofs.Common.{◌≡◌, ℕ, suc, ◌≤◌, Some, None, sym, refl, ap, ◌∙◌, subst, ⊎_elim, arith}
 use Rattle.std.proofs.lemmas.Bool.{cases_Bool, cases_eq, cases_lt}
 use Rattle.values.specs.declared.working.Row.{Row}
 use Rattle.keyframes.specs.Frames.{Frames, Holds, Stored, Cut, Emptied}
@@ -16,19 +16,11 @@ no_row x e = let z : ◌≡◌ {A = ℕ} 0 1 = cc in omega arith
 same_row : (x y : Row) → Some x ≡ Some y → x ≡ y
 same_row x y e = cc
 
--- what is held for another cycle after a put was held before it
-pub held_before : (f : Frames) (c : ℕ) (row : Row) (g : Frames) → Stored f c row g → (d : ℕ) (r : Row) → (d ≡ c → ⊥) → Holds g d r → Holds f d r
-held_before f c row g s d r other held = go (f.keeps c d) (sym (s.others d other) ∙ held)
-  where
-    go : (b : Bool) → cond b (f.held d) None ≡ Some r → f.held d ≡ Some r
-    go true e = e
-    go false e = absurd (no_row r e)
-
 module _ (right : ℕ → Row → Type 0) where
   pub each_stored : (f : Frames) (c : ℕ) (row : Row) (g : Frames) → Stored f c row g → right c row → Each right f → Each right g
   each_stored f c row g s now h d r e = ⊎_elim
       (λ k. subst (λ q. right q r) (sym k) (subst (right c) (same_row row r (sym s.held_now ∙ ap g.held (sym k) ∙ e)) now))
-      (λ n. h d r (held_before f c row g s d r n e))
+      (λ n. h d r (s.some_kept d r n e))
       (cases_eq d c)
 
   pub each_keeps : (f : Frames) (c : ℕ) (row : Row) (g : Frames) → Keeps f c row g → right c row → Each right f → Each right g

@@ -1,6 +1,4 @@
--- What a keyframe store means: the rows that it holds, at most one to a cycle, the cycles whose row it would accept, which others it
--- keeps then, and its room.
--- Assumes nothing.
+-- What a keyframe store means: the rows that it holds, at most one to a cycle, and the cycles whose row it would accept. Assumes nothing.
 use Rattle.std.specs.Prelude.{◌≡◌, ℕ, ◌<◌, ◌≤◌, Bool, true, false, cond, ◌||◌, List, [], ◌∷◌, length, is_some, Some, None, Option, ◌==◌, ◌≢◌, nat_eq}
 use Rattle.std.specs.Map.Invariant.{is-distinct}
 use Rattle.values.specs.declared.working.Row.{Row}
@@ -8,10 +6,6 @@ use Rattle.values.specs.declared.working.Row.{Row}
 pub record Frames : Type 0 where
   pub held : ℕ → Option Row
   pub takes : ℕ → Bool
-  -- whether a row accepted for the first cycle leaves the row held for the second
-  pub keeps : ℕ → ℕ → Bool
-  -- how many rows it has memory for; no call changes it
-  pub room : ℕ
 
 abbrev pub Holds : Frames → ℕ → Row → Type 0
 Holds f c row = f.held c ≡ Some row
@@ -20,11 +14,10 @@ Holds f c row = f.held c ≡ Some row
 abbrev pub Retakes : Frames → Type 0
 Retakes f = (c : ℕ) → is_some (f.held c) ≡ true → f.takes c ≡ true
 
--- the row is held now, with those held before that the store keeps, and no others
+-- the row is held now, with some of those held before and no others
 pub record Stored (f : Frames) (c : ℕ) (row : Row) (f' : Frames) : Type 0 where
   pub held_now : Holds f' c row
-  pub others : (d : ℕ) → (d ≢ c) → f'.held d ≡ cond (f.keeps c d) (f.held d) None
-  pub same_room : f'.room ≡ f.room
+  pub some_kept : (d : ℕ) (r : Row) → (d ≢ c) → Holds f' d r → Holds f d r
 
 -- the row is held now, with all those held before at other cycles
 abbrev pub With : Frames → ℕ → Row → Frames → Type 0
@@ -48,7 +41,6 @@ Fetched (Some row) was is r = (r ≡ true) × (is ≡ row)
 pub record Cut (f : Frames) (c : ℕ) (f' : Frames) : Type 0 where
   pub below : (d : ℕ) → d ≤ c → f'.held d ≡ f.held d
   pub above : (d : ℕ) → c < d → f'.held d ≡ None
-  pub same_room : f'.room ≡ f.room
 
 abbrev pub Emptied : Frames → Type 0
 Emptied f = (d : ℕ) → f.held d ≡ None

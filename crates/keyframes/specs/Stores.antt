@@ -7,13 +7,13 @@ use Rattle.keyframes.specs.Frames.{Frames}
 
 -- nothing is held, and nothing taken
 abbrev pub no_frames : Frames
-no_frames = record { held = λ _. None; takes = λ _. false; keeps = λ _ _. true; room = 0 }
+no_frames = record { held = λ _. None; takes = λ _. false }
 
 -- the row that a keyframe, if there is one, gives for a cycle
 abbrev pub row_of : Option Keyframe → ℕ → Option Row
 row_of None c = None
 row_of (Some k) c = cond (c == k.cycle) (Some k.row) None
 
--- the last row is held, and every row taken; no other is kept then
+-- the last row is held, and every row taken
 abbrev pub one_frames : OneStore → Frames
-one_frames s = record { held = row_of s.last; takes = λ _. true; keeps = λ _ _. false; room = 1 }
+one_frames s = record { held = row_of s.last; takes = λ _. true }

@@ -1,6 +1,6 @@
 -- What a table means. Assumes nothing.
 use Rattle.std.proofs.Common.{ap}
-use Rattle.std.specs.Prelude.{ℕ, true, not, ◌||◌, ltb, length, is_some, filter, Option, nat_lt}
+use Rattle.std.specs.Prelude.{ℕ, not, ◌||◌, ltb, length, is_some, filter, Option, nat_lt}
 use Rattle.values.specs.declared.working.Row.{Row}
 use Rattle.ordered.specs.Entries.{at}
 use Rattle.ordered.specs.Table.{items, capacity}
@@ -22,9 +22,9 @@ room t = capacity t.rows
 abbrev pub kept : TableStore → ℕ → Option Row
 kept t c = at ltb (items t.rows) c
 
--- a held cycle is taken, and any while there is room; every other row is kept then
+-- a held cycle is taken, and any while there is room
 abbrev pub table_frames : TableStore → Frames
-table_frames t = record { held = kept t; takes = λ c. is_some (kept t c) || nat_lt (count t) (room t); keeps = λ _ _. true; room = room t }
+table_frames t = record { held = kept t; takes = λ c. is_some (kept t c) || nat_lt (count t) (room t) }
 
 pub table_retakes : (t : TableStore) → Retakes (table_frames t)
 table_retakes t c h = ap (λ b. b || nat_lt (count t) (room t)) h

@@ -5,7 +5,7 @@ ghost use Rattle.keyframes.specs.Frames.{Cut, Emptied, Fetched, Found, Frames, R
 use values::Row;
 
 pub trait KeyframeStore {
-    // the rows held, the cycles whose row would be accepted, and the room for rows
+    // the rows held, and the cycles whose row would be accepted
     ghost means: { Self → Frames };
 
     // a held cycle's row is always accepted
@@ -34,6 +34,5 @@ pub trait KeyframeStore {
 
     // Removes all rows.
     fn empty(&mut self)
-        ensures empty { Emptied (means self.new) }
-        ensures room { (means self.new).room ≡ (means self.old).room };
+        ensures { Emptied (means self.new) };
 }

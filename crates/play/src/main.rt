@@ -1,25 +1,29 @@
-// `play DRAWING SHEET [STORE] < SCRIPT`: loads a drawing, makes a sheet, opens a player and makes the calls of a script.
-mod arguments;
-mod shown;
+// `play DRAWING SHEET`: loads a drawing, makes a sheet and shows what every block shows at the last row.
 mod stop;
 
-use crate::arguments::{Arguments, StoreChoice, read_arguments};
-use crate::shown::show_all;
 use crate::stop::{Stop, unreadable};
+use blocks::BlockLibrary;
+use draft::Block;
 use drawing::Drawing;
 use faults::Fault;
-use keyframes::{KeyframeStore, Lent, NoStore, OneStore, TableStore};
-use marks::MarkTable;
-use ordered::{Entry, Name};
 use packed::load;
 use plant::Plant;
-use player::Player;
-use runs::{EmptyHand, Halt, rehearse};
 use sheet::{Columns, Sheet};
-use std::io::Read;
-use std::{fs, io};
-use text::{Script, SheetFile, read_script, read_sheet};
-use values::{Cell, PackedState, Row};
+use std::str::from_utf8;
+use std::{env, fs, io};
+use text::{Printed, SheetFile, read_sheet};
+use values::Outputs;
+use walk::walk;
+
+// The paths of the drawing and of the sheet.
+fn paths(rt: &HostRuntime) -> Result<(String, String), Stop> {
+    let mut args = env::args(rt)?;
+    let _program = args.next();
+    match (args.next(), args.next(), args.next()) {
+        (Some(drawing), Some(sheet), None) => Ok((drawing, sheet)),
+        _ => Err(Stop::Usage),
+    }
+}
 
 fn load_file(rt: &HostRuntime, path: String) -> Result<Drawing, Stop> {
     match fs::read(rt, path.as_str()) {
@@ -32,14 +36,6 @@ fn read_file(rt: &HostRuntime, path: String) -> Result<SheetFile, Stop> {
     match fs::read_to_string(rt, path.as_str()) {
         Ok(text) => Ok(read_sheet(rt.alloc(), text.as_str())?),
         Err(e) => Err(unreadable(path, e)),
-    }
-}
-
-fn read_calls(rt: &HostRuntime, file: &SheetFile) -> Result<Script, Stop> {
-    let mut text = String::new(rt.alloc());
-    match rt.stdin().read_to_string(&mut text) {
-        Ok(_) => Ok(read_script(rt.alloc(), text.as_str(), &file.types)?),
-        Err(e) => Err(unreadable(String::from_str(rt.alloc(), "standard input")?, e)),
     }
 }
 
@@ -58,80 +54,45 @@ fn test_file(file: &SheetFile) -> Result<Columns, Fault> {
     Ok(columns)
 }
 
-// Opens a player over a store, makes the calls and shows what they answered.
-fn play_on<S: KeyframeStore + Drop>(
-    rt: &HostRuntime,
-    store: S,
-    drawing: Drawing,
-    sheet: &mut Sheet,
-    script: &Script,
-) -> Result<(), Stop> {
-    let heap = rt.alloc();
-    let blank = Entry {
-        key: Name { bytes: [0; 8] },
-        value: 0u32,
-    };
-    let mut memory = vec![in heap; blank; script.marks.len()]?;
-    let mut marks = MarkTable::new(memory.as_mut_slice());
-    for mark in script.marks.as_slice() {
-        let _ = marks.put(mark.name, mark.cycle);
-    }
-    let mut player = Player::new(heap, Plant, store)?;
-    let mut answers = Vec::with_capacity(heap, script.calls.len())?;
-    let hand = EmptyHand::with_room(heap, script.calls.len())?;
-    match rehearse(
-        &mut player,
-        drawing,
-        sheet,
-        &marks,
-        &script.calls,
-        &mut answers,
-        hand,
-    ) {
-        Ok(()) => Ok(show_all(rt, &player, script, &answers)?),
-        Err(Halt::NoMemory(_)) => Err(Stop::NoMemory),
-        Err(Halt::Refused(unopened)) => Err(Stop::Open(unopened.fault.report())),
+fn show(rt: &HostRuntime, i: usize, block: &Block, values: &Outputs) -> io::Result<()> {
+    let value = Printed(values.get(i));
+    match from_utf8(block.name()) {
+        Ok(name) => println!(rt; "{i} {name}: {value}"),
+        Err(_) => println!(rt; "{i} : {value}"),
     }
 }
 
-fn play_table(
+fn show_all(
     rt: &HostRuntime,
-    rows: usize,
-    drawing: Drawing,
-    sheet: &mut Sheet,
-    script: &Script,
-) -> Result<(), Stop> {
-    let idle = PackedState {
-        cell: Cell::Binary(false),
-        count: 0,
-    };
-    let blank = Entry {
-        key: 0u32,
-        value: Row { states: [idle; 64] },
-    };
-    let mut memory = vec![in rt.alloc(); blank; rows]?;
-    let mut table = TableStore::new(memory.as_mut_slice());
-    play_on(rt, Lent { below: &mut table }, drawing, sheet, script)
+    drawing: &Drawing,
+    sheet: &Sheet,
+    playhead: u32,
+    values: &Outputs,
+) -> io::Result<()> {
+    let blocks = drawing.blocks().len();
+    let columns = drawing.columns().len();
+    let rows = sheet.rows();
+    println!(rt; "opened: {blocks} blocks, {columns} columns, {rows} rows")?;
+    println!(rt; "playhead {playhead}")?;
+    for (i, block) in drawing.blocks().iter().enumerate() {
+        show(rt, i, block, values)?;
+    }
+    Ok(())
 }
 
 fn run(rt: &HostRuntime) -> Result<(), Stop> {
-    let Arguments {
-        drawing,
-        sheet,
-        store,
-    } = read_arguments(rt)?;
+    let (drawing, sheet) = paths(rt)?;
     let drawing = load_file(rt, drawing)?;
     let file = read_file(rt, sheet)?;
     let columns = match test_file(&file) {
         Ok(columns) => columns,
         Err(fault) => return Err(Stop::Sheet(fault.report())),
     };
-    let script = read_calls(rt, &file)?;
-    let mut sheet = Sheet::new(columns, row_count(file.rows), &file.cells);
-    match store {
-        StoreChoice::Nothing => play_on(rt, NoStore, drawing, &mut sheet, &script),
-        StoreChoice::One => play_on(rt, OneStore::new(), drawing, &mut sheet, &script),
-        StoreChoice::Table(rows) => play_table(rt, rows, drawing, &mut sheet, &script),
+    let sheet = Sheet::new(columns, row_count(file.rows), &file.cells);
+    let playhead = sheet.rows().saturating_sub(1);
+    match walk(&Plant, &drawing, &sheet, playhead) {
+        Ok(values) => Ok(show_all(rt, &drawing, &sheet, playhead, &values)?),
+        Err(fault) => Err(Stop::Open(fault.report())),
     }
 }
 

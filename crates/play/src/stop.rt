@@ -3,7 +3,7 @@ use faults::Report;
 use packed::LoadError;
 use std::alloc::AllocError;
 use std::{fmt, io};
-use text::{ScriptError, ScriptFault, SheetTextError, TextFault, Told};
+use text::{SheetTextError, TextFault, Told};
 
 #[derive(Drop)]
 pub enum Stop {
@@ -11,7 +11,6 @@ pub enum Stop {
     CannotRead(String, io::Error),
     Drawing(Report),
     SheetLine(usize, TextFault),
-    ScriptLine(usize, ScriptFault),
     Sheet(Report),
     Open(Report),
     NoMemory,
@@ -48,15 +47,6 @@ impl From<SheetTextError> for Stop {
     }
 }
 
-impl From<ScriptError> for Stop {
-    fn from(e: ScriptError) -> Stop {
-        match e {
-            ScriptError::Line(line, fault) => Stop::ScriptLine(line, fault),
-            ScriptError::NoMemory => Stop::NoMemory,
-        }
-    }
-}
-
 // A file that is not there or cannot be read, or is too large for the memory.
 pub fn unreadable(path: String, e: io::Error) -> Stop {
     match e.kind() {
@@ -68,17 +58,13 @@ pub fn unreadable(path: String, e: io::Error) -> Stop {
 impl fmt::Display for Stop {
     fn fmt<W: fmt::Write>(&self, f: &mut fmt::Formatter<W>) -> fmt::Result {
         match self {
-            Stop::Usage => write!(
-                f,
-                "usage: play DRAWING SHEET [none | one | table:K] < SCRIPT"
-            ),
+            Stop::Usage => write!(f, "usage: play DRAWING SHEET"),
             Stop::CannotRead(path, e) => write!(f, "cannot read {path}: {e}"),
             Stop::Drawing(report) => {
                 let told = Told(*report);
                 write!(f, "drawing {told}")
             }
             Stop::SheetLine(line, fault) => write!(f, "sheet line {line}: {fault}"),
-            Stop::ScriptLine(line, fault) => write!(f, "script line {line}: {fault}"),
             Stop::Sheet(report) => {
                 let told = Told(*report);
                 write!(f, "sheet {told}")

@@ -30,7 +30,7 @@ use Rattle.player.proofs.Walking.{moves_true, renews_true, TrueHead}
 
 module _ {S : Type 0} (store : S → Frames) (L : Library) (sound : Sound L) (D : Drawing) (h : Head) (p : Page) (w : Walker) (a : Agrees L D h p w) where
   -- after a move to t
-  moved : (h' : Head) (current : Bool) (t n : ℕ) → t < p.rows → Moves store L D (rows_of p) h current t n h' → Agrees L D h' p (record { writes = w.writes; trial = w.trial; cycle = t })
+  moved : (h' : Head) (current : Bool) (t n : ℕ) → t < p.rows → Moves L D (rows_of p) h current t n h' → Agrees L D h' p (record { writes = w.writes; trial = w.trial; cycle = t })
   moved h' current t n inside m =
       let now = moves_true L sound D a.fitting (rows_of p) (λ _. a.states) a.frames m in
       record {
@@ -83,7 +83,7 @@ module _ {S : Type 0} (store : S → Frames) (L : Library) (sound : Sound L) (D 
       (kept (struck_since p k) (accepted w (feed.Drop k)) refl refl (ap (λ q. struck_since q k) a.page) refl (λ i. sym (same i)))
   struck h' k n (Some low) same renews = changed h' (struck_since p k) (accepted w (feed.Drop k)) low n refl refl (ap (λ q. struck_since q k) a.page) refl (λ i lt. sym (same i lt)) renews
 
-  jumped : (h' : Head) (p' : Page) (t : ℕ) (r : Answer) → beyond p.rows t ≡ None → Jumps store L D h p t r h' p' → Agrees L D h' p' (record { writes = w.writes; trial = w.trial; cycle = t }) × ((n : ℕ) × (r ≡ answer.Worked n))
+  jumped : (h' : Head) (p' : Page) (t : ℕ) (r : Answer) → beyond p.rows t ≡ None → Jumps L D h p t r h' p' → Agrees L D h' p' (record { writes = w.writes; trial = w.trial; cycle = t }) × ((n : ℕ) × (r ≡ answer.Worked n))
   jumped h' p' t r none (same, (n, is, m)) =
       (subst (λ q. Agrees L D h' q (record { writes = w.writes; trial = w.trial; cycle = t })) (sym same) (moved h' _ t n (within p.rows t none) m), (n, is))
 

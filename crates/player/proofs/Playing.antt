@@ -17,12 +17,12 @@ pub stays_trans : {L S : Type 0} {p q r : Player L S} → Stays p q → Stays q 
 stays_trans a b = record { library = b.library ∙ a.library; drawing = b.drawing ∙ a.drawing; rows = b.rows ∙ a.rows }
 
 -- one cycle more, by a player that has the same library and drawing
-pub plays_on : {S : Type 0} {store : S → Frames} {L L' : Library} {D D' : Drawing} (rows : ℕ → List Value) {a c : ℕ} {s st st' : List State} {f k k' : Frames}
-    → L' ≡ L → D' ≡ D → Plays store L D rows a s f c st k → Works L' D' rows c st st' → Reaches k (c + 1) st' k' → Of store k' → Plays store L D rows a s f (c + 1) st' k'
-plays_on {store = store} {L = L} {L' = L'} {D = D} {D' = D'} rows {a = a} {c = c} {s = s} {st = st} {st' = st'} {f = f} {k = k} {k' = k'} same-L same-D before works reaches of =
+pub plays_on : {L L' : Library} {D D' : Drawing} (rows : ℕ → List Value) {a c : ℕ} {s st st' : List State} {f k k' : Frames}
+    → L' ≡ L → D' ≡ D → Plays L D rows a s f c st k → Works L' D' rows c st st' → Reaches k (c + 1) st' k' → Plays L D rows a s f (c + 1) st' k'
+plays_on {L} {L'} {D} {D'} rows {a} {c} {s} {st} {st'} {f} {k} {k'} same-L same-D before works reaches =
     let w : Works L D rows c st st' = subst (λ M. Works M D rows c st st') same-L (subst (λ E. Works L' E rows c st st') same-D works) in
     let kept : Reaches k (suc c) st' k' = subst (λ n. Reaches k n st' k') (add-one c) reaches in
-    subst (λ n. Plays store L D rows a s f n st' k') (sym (add-one c)) (on before w kept of)
+    subst (λ n. Plays L D rows a s f n st' k') (sym (add-one c)) (on before w kept)
 
 -- a fetch at a held cycle gives its row
 pub fetched : (o : Option Row) (was is : Row) (r : Bool) → is_some o ≡ true → Fetched o was is r → o ≡ Some is
@@ -36,9 +36,9 @@ starts_below ahead (keyframe c row held below top above) = below
 starts_below ahead (beginning first e none begins) = omega arith
 
 -- the same cycles, by an equal library, drawing and store
-pub plays_as : {S : Type 0} {store : S → Frames} {L L' : Library} {D D' : Drawing} (rows : ℕ → List Value) {a t : ℕ} {s st : List State} {f f' k : Frames} → L' ≡ L → D' ≡ D → f' ≡ f → Plays store L' D' rows a s f' t st k → Plays store L D rows a s f t st k
-plays_as {store = store} {L = L} {L' = L'} {D = D} {D' = D'} rows {a = a} {t = t} {s = s} {st = st} {f = f} {f' = f'} {k = k} same-L same-D same-f plays =
-    subst (λ M. Plays store M D rows a s f t st k) same-L (subst (λ E. Plays store L' E rows a s f t st k) same-D (subst (λ e. Plays store L' D' rows a s e t st k) same-f plays))
+pub plays_as : {L L' : Library} {D D' : Drawing} (rows : ℕ → List Value) {a t : ℕ} {s st : List State} {f f' k : Frames} → L' ≡ L → D' ≡ D → f' ≡ f → Plays L' D' rows a s f' t st k → Plays L D rows a s f t st k
+plays_as {L} {L'} {D} {D'} rows {a} {t} {s} {st} {f} {f'} {k} same-L same-D same-f plays =
+    subst (λ M. Plays M D rows a s f t st k) same-L (subst (λ E. Plays L' E rows a s f t st k) same-D (subst (λ e. Plays L' D' rows a s e t st k) same-f plays))
 
 pub values_as : {L L' : Library} {D D' : Drawing} (st : List State) {x y : List Value} {vs : List Value} → L' ≡ L → D' ≡ D → x ≡ y → vs ≡ values_of L' D' st x → vs ≡ values_of L D st y
 values_as {L} {L'} {D} {D'} st {x} {y} {vs} same-L same-D same-x is =

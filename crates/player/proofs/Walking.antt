@@ -7,7 +7,6 @@ use Rattle.values.specs.declared.working.Row.{Row}
 use Rattle.blocks.specs.Library.{Library, Sound}
 use Rattle.drawing.specs.declared.drawing.Drawing.{Drawing}
 use Rattle.keyframes.specs.Frames.{Frames, Holds}
-use Rattle.keyframes.proofs.Staying.{held_before}
 use Rattle.keyframes.specs.Chain.{due}
 use Rattle.walk.specs.Cycle.{Solves}
 use Rattle.walk.specs.Opening.{blocks_of, fits}
@@ -36,13 +35,13 @@ module _ (L : Library) (sound : Sound L) (D : Drawing) (fitting : fits L D) wher
           (λ same.
           let here : packed st ≡ row = same_row (r.keeps.put e).held_now (subst (λ n. Holds f' n row) same held) in
           subst (λ n. Walks L (blocks_of D) rows n (unpacked row)) (sym same) (subst (λ x. Walks L (blocks_of D) rows c (unpacked x)) here (subst (Walks L (blocks_of D) rows c) (sym (r.back e)) walked)))
-          (λ other. good d row (held_before f c (packed st) f' (r.keeps.put e) d row other held))
+          (λ other. good d row ((r.keeps.put e).some_kept d row other held))
           (cases_eq d c)
       go false e d row held = good d row (subst (λ g. Holds g d row) (r.keeps.left e) held)
 
-  plays_walk : {S : Type 0} {store : S → Frames} (rows : ℕ → List Value) {a : ℕ} {s : List State} {f : Frames} → Walks L (blocks_of D) rows a s → TrueFrames L D rows f → {t : ℕ} {st : List State} {f' : Frames} → Plays store L D rows a s f t st f' → Walks L (blocks_of D) rows t st × TrueFrames L D rows f'
+  plays_walk : (rows : ℕ → List Value) {a : ℕ} {s : List State} {f : Frames} → Walks L (blocks_of D) rows a s → TrueFrames L D rows f → {t : ℕ} {st : List State} {f' : Frames} → Plays L D rows a s f t st f' → Walks L (blocks_of D) rows t st × TrueFrames L D rows f'
   plays_walk rows walked good here = (walked, good)
-  plays_walk rows walked good (on {c = c} {states = states} {after = after} {g = k} {g' = k'} before works reaches of) =
+  plays_walk rows walked good (on {c = c} {states = states} {after = after} {g = k} {g' = k'} before works reaches) =
       let so_far = plays_walk rows walked good before in
       let now = pass so_far.0 (order_solves L sound D fitting states (rows c)) works in
       (now, frames_more rows k k' (suc c) after so_far.1 now reaches)
@@ -58,7 +57,7 @@ module _ (L : Library) (sound : Sound L) (D : Drawing) (fitting : fits L D) wher
     pub shown : Solves L (blocks_of D) h.states (rows h.at) h.shown
     pub frames : TrueFrames L D rows h.frames
 
-  pub moves_true : {S : Type 0} {store : S → Frames} (rows : ℕ → List Value) {h h' : Head} {current : Bool} {t r : ℕ} → (current ≡ true → Walks L (blocks_of D) rows h.at h.states) → TrueFrames L D rows h.frames → Moves store L D rows h current t r h' → TrueHead rows h'
+  pub moves_true : (rows : ℕ → List Value) {h h' : Head} {current : Bool} {t r : ℕ} → (current ≡ true → Walks L (blocks_of D) rows h.at h.states) → TrueFrames L D rows h.frames → Moves L D rows h current t r h' → TrueHead rows h'
   moves_true rows {h} {h'} {current} {t} {r} mine good m =
       let end = plays_walk rows (starts_walk rows mine good m.starts) good m.plays in
       record {

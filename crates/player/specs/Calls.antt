@@ -62,7 +62,7 @@ with_frames h f = record { at = h.at; states = h.states; shown = h.shown; frames
 pub record Renews {S : Type 0} (store : S → Frames) (L : Library) (D : Drawing) (rows : ℕ → List Value) (h : Head) (k report : ℕ) (h' : Head) : Type 0 where
   pub cut : S
   pub is_cut : Cut h.frames k (store cut)
-  pub again : k < h.at → Moves store L D rows (with_frames h (store cut)) false h.at report h'
+  pub again : k < h.at → Moves L D rows (with_frames h (store cut)) false h.at report h'
   pub renewed : k ≡ h.at → (report ≡ 0) × (h' ≡ record { at = h.at; states = h.states; shown = values_of L D h.states (rows h.at); frames = store cut; rows = h.rows })
   pub left : h.at < k → (report ≡ 0) × (h' ≡ with_frames h (store cut))
 
@@ -72,15 +72,15 @@ RenewsFrom store L D rows h None report h' = (report ≡ 0) × (h' ≡ h)
 RenewsFrom store L D rows h (Some k) report h' = Renews store L D rows h k report h'
 
 -- a jump to t that reports a
-abbrev pub Jumps : {S : Type 0} → (S → Frames) → Library → Drawing → Head → Page → ℕ → Answer → Head → Page → Type 0
-Jumps store L D h p t a h' p' = (p' ≡ p) × ((n : ℕ) × (a ≡ answer.Worked n) × Moves store L D (rows_of p) h (nat_le h.at t) t n h')
+abbrev pub Jumps : Library → Drawing → Head → Page → ℕ → Answer → Head → Page → Type 0
+Jumps L D h p t a h' p' = (p' ≡ p) × ((n : ℕ) × (a ≡ answer.Worked n) × Moves L D (rows_of p) h (nat_le h.at t) t n h')
 
 -- what an accepted call answers and does
 abbrev pub Done : {S : Type 0} → (S → Frames) → Library → Drawing → Head → Page → Feed → Answer → Head → Page → Type 0
-Done store L D h p feed.Step a h' p' = Jumps store L D h p (h.at + 1) a h' p'
-Done store L D h p (feed.Jump t) a h' p' = Jumps store L D h p t a h' p'
+Done store L D h p feed.Step a h' p' = Jumps L D h p (h.at + 1) a h' p'
+Done store L D h p (feed.Jump t) a h' p' = Jumps L D h p t a h' p'
 Done store L D h p (feed.Goto None) a h' p' = ⊥
-Done store L D h p (feed.Goto (Some t)) a h' p' = Jumps store L D h p t a h' p'
+Done store L D h p (feed.Goto (Some t)) a h' p' = Jumps L D h p t a h' p'
 Done store L D h p (feed.Write c i v) a h' p' = (p' ≡ appended p (write_of c i v)) × ((n : ℕ) × (a ≡ answer.Worked n) × Renews store L D (rows_of p') h c n h')
 Done store L D h p feed.TakeBack a h' p' = (p' ≡ struck_latest p) × ((n : ℕ) × (a ≡ answer.Worked n) × Renews store L D (rows_of p') h (latest_write p).cycle n h')
 Done store L D h p feed.Begin a h' p' = (h' ≡ h) × (p' ≡ opened p) × (a ≡ answer.Slip (length p.writes))

@@ -22,11 +22,11 @@ pub data Starts (L : Library) (D : Drawing) (h : Head) (current : Bool) (t : ℕ
   keyframe : (c : ℕ) (row : Row) → Holds h.frames c row → c ≤ t → NoneBetween h.frames c t → (current ≡ true → h.at < c) → Starts L D h current t c (unpacked row)
   beginning : (first : List State) → current ≡ false → ((d : ℕ) → d ≤ t → h.frames.held d ≡ None) → Begins L (blocks_of D) first → Starts L D h current t 0 first
 
-pub record Moves {S : Type 0} (store : S → Frames) (L : Library) (D : Drawing) (rows : ℕ → List Value) (h : Head) (current : Bool) (t report : ℕ) (h' : Head) : Type 0 where
+pub record Moves (L : Library) (D : Drawing) (rows : ℕ → List Value) (h : Head) (current : Bool) (t report : ℕ) (h' : Head) : Type 0 where
   pub start : ℕ
   pub first : List State
   pub starts : Starts L D h current t start first
-  pub plays : Plays store L D rows start first h.frames t h'.states h'.frames
+  pub plays : Plays L D rows start first h.frames t h'.states h'.frames
   pub arrived : h'.at ≡ t
   pub shows : h'.shown ≡ values_of L D h'.states (rows t)
   pub reported : report + start ≡ t

@@ -33,14 +33,10 @@ pub record Reaches (f : Frames) (c : ℕ) (states : List State) (f' : Frames) : 
   pub keeps : Keeps f c (packed states) f'
   pub back : due f c ≡ true → unpacked (packed states) ≡ states
 
--- what some store of the type means
-abbrev pub Of : {S : Type 0} → (S → Frames) → Frames → Type 0
-Of {S} store f = (s : S) × (f ≡ store s)
-
--- from the states and the store at one cycle to those at a later one, each cycle between with a store of its own
-pub data Plays {S : Type 0} (store : S → Frames) (L : Library) (D : Drawing) (rows : ℕ → List Value) (from : ℕ) (first : List State) (f : Frames) : ℕ → List State → Frames → Type 0 where
-  here : Plays store L D rows from first f from first f
-  on : {c : ℕ} {states after : List State} {g g' : Frames} → Plays store L D rows from first f c states g → Works L D rows c states after → Reaches g (suc c) after g' → Of store g' → Plays store L D rows from first f (suc c) after g'
+-- from the states and the store at one cycle to those at a later one
+pub data Plays (L : Library) (D : Drawing) (rows : ℕ → List Value) (from : ℕ) (first : List State) (f : Frames) : ℕ → List State → Frames → Type 0 where
+  here : Plays L D rows from first f from first f
+  on : {c : ℕ} {states after : List State} {g g' : Frames} → Plays L D rows from first f c states g → Works L D rows c states after → Reaches g (suc c) after g' → Plays L D rows from first f (suc c) after g'
 
 -- a player by its playhead, states, shown values and keyframes, and the number of rows that it was opened with
 pub record Head : Type 0 where

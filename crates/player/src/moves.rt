@@ -50,7 +50,7 @@ impl<L: BlockLibrary, S: KeyframeStore> Player<L, S> {
     pub(crate) fn play(&mut self, sheet: &Sheet, start: u32, end: u32)
         requires order { start ≤ end }
         requires inside { end < 4096 }
-        ensures plays { Plays S.KeyframeStore.means (L.BlockLibrary.meaning self.old.library) self.old.drawing (rows_of (page sheet.now)) start self.old.states.all (S.KeyframeStore.means self.old.store) end self.new.states.all (S.KeyframeStore.means self.new.store) }
+        ensures plays { Plays (L.BlockLibrary.meaning self.old.library) self.old.drawing (rows_of (page sheet.now)) start self.old.states.all (S.KeyframeStore.means self.old.store) end self.new.states.all (S.KeyframeStore.means self.new.store) }
         ensures stays { Stays self.old self.new }
     {
         for c in start..end {
@@ -84,7 +84,7 @@ impl<L: BlockLibrary, S: KeyframeStore> Player<L, S> {
         requires short { end < 4096 }
         requires inside { 0 < self.old.rows → end < self.old.rows }
         requires ahead { current ≡ true → self.old.at ≤ end }
-        ensures moves { Moves S.KeyframeStore.means (L.BlockLibrary.meaning self.old.library) self.old.drawing (rows_of (page sheet.now)) (head_of S.KeyframeStore.means self.old) current end result (head_of S.KeyframeStore.means self.new) }
+        ensures moves { Moves (L.BlockLibrary.meaning self.old.library) self.old.drawing (rows_of (page sheet.now)) (head_of S.KeyframeStore.means self.old) current end result (head_of S.KeyframeStore.means self.new) }
         ensures stays { Stays self.old self.new }
     {
         let start = self.rewind(end, current);
@@ -99,7 +99,7 @@ impl<L: BlockLibrary, S: KeyframeStore> Player<L, S> {
     pub(crate) fn move_to(&mut self, sheet: &Sheet, cycle: u32) -> u32
         requires short { cycle < 4096 }
         requires inside { 0 < self.old.rows → cycle < self.old.rows }
-        ensures moves { Moves S.KeyframeStore.means (L.BlockLibrary.meaning self.old.library) self.old.drawing (rows_of (page sheet.now)) (head_of S.KeyframeStore.means self.old) (nat_le self.old.at cycle) cycle result (head_of S.KeyframeStore.means self.new) }
+        ensures moves { Moves (L.BlockLibrary.meaning self.old.library) self.old.drawing (rows_of (page sheet.now)) (head_of S.KeyframeStore.means self.old) (nat_le self.old.at cycle) cycle result (head_of S.KeyframeStore.means self.new) }
         ensures stays { Stays self.old self.new }
     {
         self.go(sheet, cycle, self.at <= cycle)

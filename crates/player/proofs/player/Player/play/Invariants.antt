@@ -6,5 +6,5 @@ use Rattle.player.proofs.player.Player.play.Given as goal
 
 abbrev pub invariant-loop-c : goal.invariant-loop-c
 invariant-loop-c g l =
-    Plays g.S.KeyframeStore.means (g.L.BlockLibrary.meaning l.initial.self.library) l.initial.self.drawing (rows_of (page l.sheet)) l.start l.initial.self.states.all (g.S.KeyframeStore.means l.initial.self.store) l.c l.self.states.all (g.S.KeyframeStore.means l.self.store)
+    Plays (g.L.BlockLibrary.meaning l.initial.self.library) l.initial.self.drawing (rows_of (page l.sheet)) l.start l.initial.self.states.all (g.S.KeyframeStore.means l.initial.self.store) l.c l.self.states.all (g.S.KeyframeStore.means l.self.store)
     × Stays l.initial.self l.self

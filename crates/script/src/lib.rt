@@ -1,0 +1,4 @@
+// The program's scripts, read from text.
+mod script;
+
+pub use script::{Mark, Script, ScriptError, ScriptFault, read_script};
