@@ -1,4 +1,6 @@
 // What is told of a refusal, and the refusals that users and programmers meet.
+#![tactic(auto)]
+
 mod fault;
 mod report;
 
