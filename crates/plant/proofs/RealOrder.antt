@@ -1,5 +1,5 @@
 -- The order of reals: not-a-number is in no order, and of two numbers one is not above the other. Assumes nothing.
-use Rattle.std.proofs.Common.{◌≡◌, ℕ, ◌+◌, ◌*◌, ◌<◌, ◌≤◌, Bool, true, false, not, ◌||◌, sym, refl, ap, ◌∙◌, inl, inr, eq-zero-or-pos, mul-pos, zero-mul, arith}
+use Rattle.std.proofs.Common.{◌≡◌, ℕ, ◌+◌, ◌*◌, ◌<◌, ◌≤◌, Bool, true, false, ◌||◌, sym, refl, ap, ◌∙◌, inl, inr, eq-zero-or-pos, mul-pos, zero-mul, arith}
 use lib.Ieee.{Float, nan, inf, fin, up, down, below, level, is_nan, lt, le, eq}
 use lib.Ieee.Fits.{down_pos}
 use lib.Ieee.Positive.{through, first_pos}

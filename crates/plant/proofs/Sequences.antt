@@ -1,5 +1,5 @@
 -- Stages that are on, and their patterns. Each fact of the parameter m is one computation over its sixteen values. Assumes nothing.
-use Rattle.std.proofs.Common.{◌≡◌, ℕ, ◌+◌, ◌-◌, ◌*◌, ◌^◌, ◌<◌, ◌≤◌, min, Bool, true, false, cond, [], ◌∷◌, map, get_or, ℤ, pos, negsuc, ◌+ℤ◌, sym, refl, ap, ◌∙◌, subst, arith, w16, to_z}
+use Rattle.std.proofs.Common.{◌≡◌, ℕ, ◌+◌, ◌-◌, ◌*◌, ◌^◌, ◌<◌, ◌≤◌, min, Bool, true, false, cond, [], ◌∷◌, map, get_or, pos, negsuc, ◌+ℤ◌, sym, refl, ap, ◌∙◌, subst, arith, w16, to_z}
 use lib.Ieee.{Float, nan, inf, fin, binary32, up, down, mul, div, lt, le, is_nan, of_int, to_unsigned}
 use lib.Ieee.Positive.{positive, first_pos}
 use Rattle.std.specs.List.{range_with_len}
