@@ -1,4 +1,6 @@
 // Reads blocks with their parameters and inputs, a block to a line, and prints what each shows.
+#![tactic(auto)]
+
 mod digits;
 mod rows;
 

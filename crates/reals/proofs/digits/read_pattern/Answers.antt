@@ -13,11 +13,11 @@ digit_bound c = digit_small (get_or c.args.word.now c.loop-b.b-index 0) c.in-Som
 number_bound : (c : goal.In-Some) → c.loop-b.n < 2 ^ 28
 number_bound c = small c.loop-b.n c.loop-b.b-index c.loop-b.invariant.0 (omega arith)
 
-pub overflow-mul-n : goal.overflow-mul-n
-overflow-mul-n c = let b = number_bound c in omega arith
+pub overflow_mul-n : goal.overflow_mul-n
+overflow_mul-n c = let b = number_bound c in omega arith
 
-pub overflow-add-n : goal.overflow-add-n
-overflow-add-n c = let b = number_bound c in let d = digit_bound c in omega arith
+pub overflow_add-n : goal.overflow_add-n
+overflow_add-n c = let b = number_bound c in let d = digit_bound c in omega arith
 
 pub returns-in-None : goal.returns-in-None
 returns-in-None c =
