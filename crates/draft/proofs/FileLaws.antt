@@ -1,5 +1,5 @@
 -- Each part of the packed file is read exactly where its bits stand.
-use Rattle.std.proofs.Common.{◌≡◌, ℕ, zero, suc, ◌-◌, ◌^◌, ◌<◌, ◌≤◌, true, false, cond, not, ◌&&◌, eqb, leb, List, [], ◌∷◌, length, replicate, sym, refl, ap, inl, inr, arith, pow_pos, w16, eqb-true, le-leb, leb-false}
+use Rattle.std.proofs.Common.{◌≡◌, ℕ, zero, suc, ◌^◌, ◌<◌, ◌≤◌, true, false, cond, not, ◌&&◌, eqb, leb, List, [], ◌∷◌, length, replicate, sym, refl, ap, inl, inr, arith, pow_pos, w16, eqb-true, le-leb, leb-false}
 use mir.Facts.{of_z-to_z}
 use borrow.Author.Tests.{eqb-false, clash}
 use Rattle.std.proofs.lemmas.Bool.{not-false, and_cases, true≢false}
@@ -8,7 +8,6 @@ use Rattle.std.proofs.lemmas.List.{length-replicate}
 use Rattle.draft.specs.declared.fault.ReadFault.TheVariants.{CutShort, Edition, Count, NoType, ZeroBit, NotFinite, NameByte}
 use Rattle.values.specs.declared.scalar.ValueType.{ValueType}
 use Rattle.values.specs.declared.scalar.ValueType.TheVariants.{Binary, Whole, Real}
-use Rattle.values.specs.declared.packed.Cell.TheVariants as Cells
 use Rattle.draft.specs.Bits.{value_at}
 use Rattle.draft.specs.Format.{times}
 use Rattle.draft.specs.File.{edition, up_to, free, block_count, tag, pattern, zero_bit, zeros_format, gap, padding_format, header_format, type_from, tag_of, type_format, columns_format, source_of, source_parts, source_format, width_of, cell_from, cell_parts, cell_format, name_byte, block_head}

@@ -1,6 +1,6 @@
 -- The packed file of a drawing.
 use Rattle.std.specs.Prelude.{◌≡◌, ℕ, ◌-◌, ◌/◌, ◌%◌, ◌<◌, Bool, true, cond, not, ◌&&◌, leb, List, length, replicate, Ok, Err, Result, ◌==◌, nat_eq, nat_le}
-use Rattle.std.specs.List.{AllByRecursion as All}
+use Rattle.std.specs.List.{AllByRecursion}
 use Rattle.std.specs.Int.{w16}
 use Rattle.std.proofs.Common.{to_z, of_z}
 use Rattle.draft.specs.declared.fault.ReadFault.{ReadFault}
@@ -191,4 +191,4 @@ WritesWhatIsRead = (d : DraftOf) (bytes : List ℕ) → read_file bytes ≡ Ok d
 
 -- a drawing has one file
 abbrev pub OneFile : Type 0
-OneFile = (d : DraftOf) (b c : List ℕ) → All (λ x. x < 256) b → All (λ x. x < 256) c → FileOf d b → FileOf d c → b ≡ c
+OneFile = (d : DraftOf) (b c : List ℕ) → AllByRecursion (λ x. x < 256) b → AllByRecursion (λ x. x < 256) c → FileOf d b → FileOf d c → b ≡ c

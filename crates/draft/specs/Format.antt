@@ -1,6 +1,6 @@
 -- A format, both ways: the bits of a value, and what is read at a bit of a file.
 use Rattle.std.specs.Prelude.{◌≡◌, ℕ, zero, suc, ◌+◌, ◌-◌, ◌^◌, ◌<◌, Bool, true, cond, List, [], ◌∷◌, ◌++◌, map, length, take, drop, replicate, Ok, Err, Result, MatchResult, nat_le}
-use Rattle.std.specs.List.{AllByRecursion as All}
+use Rattle.std.specs.List.{AllByRecursion}
 use Rattle.draft.specs.declared.fault.ReadFault.{ReadFault}
 use Rattle.draft.specs.declared.fault.ReadFault.TheVariants.{CutShort}
 use Rattle.draft.specs.Bits.{field, value_at}
@@ -57,7 +57,7 @@ read_all F (suc n) file p = bind (F.read file p) (λ x. bind (read_all F n file 
 
 abbrev pub times : {A : Type 0} → ℕ → Format A → Format (List A)
 times n F = record {
-  fits = λ xs. (length xs ≡ n) × All F.fits xs;
+  fits = λ xs. (length xs ≡ n) × AllByRecursion F.fits xs;
   bits = bits_all F;
   size = size_all F;
   read = read_all F n;

@@ -1,4 +1,6 @@
 // Drafts: drawings as their files give them, within limits and not checked. The reader alone makes them.
+#![tactic(auto)]
+
 mod access;
 mod assemble;
 mod bitfield;

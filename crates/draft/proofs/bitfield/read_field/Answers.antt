@@ -4,8 +4,8 @@ use Rattle.draft.proofs.BitLaws.{length_bits_of, under_bits_of}
 use Rattle.draft.proofs.Fields.{value_at_none, value_at_more, value_at_lt, read_field_cut, read_field_whole}
 use Rattle.draft.proofs.bitfield.read_field.Goals as goal
 
-pub returns-then-div-ceil-file : goal.returns-then-div-ceil-file
-returns-then-div-ceil-file c = record {
+pub returns-then-div_ceil-file : goal.returns-then-div_ceil-file
+returns-then-div_ceil-file c = record {
   value = sym (read_field_cut (bits_of c.args.file.now) c.args.at c.args.width (omega (arith, length_bits_of c.args.file.now)));
   small = tt;
 }
@@ -21,13 +21,13 @@ next c =
     (λ k. (c.loop-i.invariant k) * 2 + b k)
     ∙ value_at_more bits c.args.at c.loop-i.i (omega (arith, length_bits_of c.args.file.now))
 
-pub overflow-mul-value : goal.overflow-mul-value
-overflow-mul-value c =
+pub overflow_mul-value : goal.overflow_mul-value
+overflow_mul-value c =
     let few : c.loop-i.i ≤ 31 = omega arith in
     omega (arith, c.loop-i.invariant, value_at_lt (bits_of c.args.file.now) c.args.at c.loop-i.i (under_bits_of c.args.file.now), pow_mono few)
 
-pub overflow-add-value : goal.overflow-add-value
-overflow-add-value c =
+pub overflow_add-value : goal.overflow_add-value
+overflow_add-value c =
     let few : c.loop-i.i + 1 ≤ 32 = omega arith in
     omega (arith, next c, value_at_lt (bits_of c.args.file.now) c.args.at (c.loop-i.i + 1) (under_bits_of c.args.file.now), pow_mono few)
 

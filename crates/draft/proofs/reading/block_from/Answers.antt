@@ -6,30 +6,18 @@ use Rattle.draft.specs.Records.{block_of}
 use Rattle.draft.proofs.Bounds.{block_in}
 use Rattle.draft.proofs.reading.block_from.Goals as goal
 
-pub invariant-of-result : goal.invariant-of-result
-invariant-of-result c =
+pub invariant_of-result : goal.invariant_of-result
+invariant_of-result c =
     let w = block_in (block_of c.args.block.now) c.requires.0 in
-    let n = c.in-ok-name.ensures in
-    let p = c.in-ok-params.ensures in
-    let s = c.in-ok-sources.ensures in (
-      w.known,
-      (
-        omega (arith, n.len, w.short),
-        (
-          subst (λ (xs : List ℕ). every printable xs ≡ true) (sym n.items) w.text,
-          (
-            omega (arith, c.in-ok-params.params.ok.0, ap length p, w.few_params),
-            (
-              subst (λ (xs : List Value). every holdable xs ≡ true) (sym p) w.sound,
-              (
-                omega (arith, c.in-ok-sources.sources.ok.0, ap length s, w.few_sources),
-                (
-                  subst (λ (xs : List Source). every numbered xs ≡ true) (sym s) w.within,
-                  tt,
-                ),
-              ),
-            ),
-          ),
-        ),
-      ),
-    )
+    let n = c.in_ok-name.ensures in
+    let p = c.in_ok-params.ensures in
+    let s = c.in_ok-sources.ensures in
+    record {
+      known = w.known;
+      short = omega (arith, n.len, w.short);
+      text = subst (λ (xs : List ℕ). every printable xs ≡ true) (sym n.items) w.text;
+      few_params = omega (arith, c.in_ok-params.params.ok.0, ap length p, w.few_params);
+      sound = subst (λ (xs : List Value). every holdable xs ≡ true) (sym p) w.sound;
+      few_sources = omega (arith, c.in_ok-sources.sources.ok.0, ap length s, w.few_sources);
+      within = subst (λ (xs : List Source). every numbered xs ≡ true) (sym s) w.within;
+    }

@@ -12,6 +12,6 @@ returns c =
     let a1 = c.value-2.ensures.value in
     let a2 = c.value-3.ensures.value in
     let a3 = c.value-4.ensures.value in
-    IfOk-weaker c.from-slice.result _ _
-    (λ v h. h.0 ∙ (λ i. take (all i) (a0 i ∷ a1 i ∷ a2 i ∷ a3 i ∷ [])) ∙ take_map value_of b.params (b.param0 ∷ b.param1 ∷ b.param2 ∷ b.param3 ∷ []))
-    c.from-slice.ensures.made
+    IfOk-weaker c.from_slice.result _ _
+    (λ v h. h ∙ (λ i. take (all i) (a0 i ∷ a1 i ∷ a2 i ∷ a3 i ∷ [])) ∙ take_map value_of b.params (b.param0 ∷ b.param1 ∷ b.param2 ∷ b.param3 ∷ []))
+    c.from_slice.ensures.items

@@ -16,40 +16,44 @@ loop-blocks-init c =
     let n = c.new-reader.ensures.start in
     (begins c.args.file.now _ _ _ _ n.2 n.1 c.new-columns.ensures.items (ap (map block_means) c.new-blocks.ensures.items), n.0)
 
-pub returns-in-err-part : goal.returns-in-err-part
-returns-in-err-part c =
-    let p = err_from_is_err_and c.from-residual.result c.from-residual.ensures.1 in
-    let t = c.in-err-part.ensures.cases in
+pub returns-in_err-part : goal.returns-in_err-part
+returns-in_err-part c =
+    let p = err_from_is_err_and c.from_residual.result c.from_residual.ensures.1 in
+    let t = c.in_err-part.ensures.cases in
     let e = stops c.args.file.now _ _ _ _ _ c.loop-blocks.invariant.1 c.loop-blocks.invariant.0 _ t.0 in
     rw (p.1, p.2) (record { value = e; draft = first_fault c.args.file.now _ e })
 
-pub add-record-requires : goal.add-record-requires
-add-record-requires c =
+pub add_record-requires : goal.add_record-requires
+add_record-requires c =
     let file = bits_of c.loop-blocks.reader.file.now in
     let st = c.loop-blocks.reader.stage in
     let p = c.loop-blocks.reader.at in
     fit file st p c.in-Some.part _ _ (under_bits_of _)
-    (subst (λ (o : Option Record). HandsOut file st p o c.next.new.self.stage c.next.new.self.at) c.in-Some.is c.in-ok-part.ensures.cases)
+    (subst (λ (o : Option Record). HandsOut file st p o c.next.new.self.stage c.next.new.self.at) c.in-Some.is c.in_ok-part.ensures.cases)
 
 pub loop-blocks-preserved : goal.loop-blocks-preserved
 loop-blocks-preserved c =
-    let t = c.in-ok-part.ensures in
-    let a = c.in-ok-add-record.ensures in (
+    let t = c.in_ok-part.ensures in
+    let a = c.in_ok-add_record.ensures in (
       goes_on c.args.file.now _ _ _ _ _ c.loop-blocks.invariant.1 c.loop-blocks.invariant.0 _ _ _ _ _ _ c.in-Some.is t.cases a.0 a.1,
       t.same ∙ c.loop-blocks.invariant.1,
     )
 
-pub invariant-of-result : goal.invariant-of-result
-invariant-of-result c =
-    let t = c.in-ok-part.ensures.cases in
+pub invariant_of-result : goal.invariant_of-result
+invariant_of-result c =
+    let t = c.in_ok-part.ensures.cases in
     let cs = c.loop-blocks.columns in
     let bs = c.loop-blocks.blocks in
-    let d = draft_in c.args.file.now _ (ends c.args.file.now _ _ _ _ _ c.loop-blocks.invariant.1 c.loop-blocks.invariant.0 _ _ _ c.in-default.is t) in
+    let d = draft_in c.args.file.now _ (ends c.args.file.now _ _ _ _ _ c.loop-blocks.invariant.1 c.loop-blocks.invariant.0 _ _ _ c.in_default.is t) in
     let long = length-map (vec_items bs) block_means in
-    (omega (arith, cs.ok.0, d.0), (omega (arith, bs.ok.0, long, d.1), (omega (arith, bs.ok.0, long, d.2), tt)))
+    record {
+      few_columns = omega (arith, cs.ok.0, d.0);
+      some_block = omega (arith, bs.ok.0, long, d.1);
+      few_blocks = omega (arith, bs.ok.0, long, d.2);
+    }
 
 pub returns : goal.returns
 returns c =
-    let t = c.in-ok-part.ensures.cases in
-    let e = ends c.args.file.now _ _ _ _ _ c.loop-blocks.invariant.1 c.loop-blocks.invariant.0 _ _ _ c.in-default.is t in
+    let t = c.in_ok-part.ensures.cases in
+    let e = ends c.args.file.now _ _ _ _ _ c.loop-blocks.invariant.1 c.loop-blocks.invariant.0 _ _ _ c.in_default.is t in
     record { value = e; draft = the_draft c.args.file.now _ e }

@@ -5,6 +5,6 @@ use Rattle.draft.proofs.scan.read_padding.Goals as goal
 
 pub returns : goal.returns
 returns c = record {
-  value = (sym c.in-ok-read-zeros.ensures, ap (λ n. c.args.at + n) (sym (size_all_zeros c.args.at (gap c.args.at))));
+  value = (sym c.in_ok-read_zeros.ensures, ap (λ n. c.args.at + n) (sym (size_all_zeros c.args.at (gap c.args.at))));
   whole = (omega arith, omega arith);
 }

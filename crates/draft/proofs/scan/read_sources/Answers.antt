@@ -6,17 +6,17 @@ use Rattle.draft.specs.File.{source_format}
 use Rattle.draft.proofs.Loops.{filled_more, filled_fails, filled_all}
 use Rattle.draft.proofs.scan.read_sources.Goals as goal
 
-pub returns-in-err-sources : goal.returns-in-err-sources
-returns-in-err-sources c =
-    let p = err_from_is_err_and c.from-residual.result c.from-residual.ensures.1 in
+pub returns-in_err-sources : goal.returns-in_err-sources
+returns-in_err-sources c =
+    let p = err_from_is_err_and c.from_residual.result c.from_residual.ensures.1 in
     rw (p.1, p.2) (record {
-      value = (filled_fails source_format 4 (Column 0) (bits_of c.args.file.now) c.args.count c.args.start c.loop-i.i _ _ _ c.loop-i-test.true c.loop-i.invariant.0 (sym c.in-err-sources.ensures));
+      value = (filled_fails source_format 4 (Column 0) (bits_of c.args.file.now) c.args.count c.args.start c.loop-i.i _ _ _ c.loop-i-test.true c.loop-i.invariant.0 (sym c.in_err-sources.ensures));
       near = tt;
     })
 
 pub loop-i-preserved : goal.loop-i-preserved
 loop-i-preserved c = (
-  filled_more source_format 4 (Column 0) (bits_of c.args.file.now) c.args.count c.args.start c.loop-i.i _ _ _ c.loop-i-test.true (omega arith) c.loop-i.invariant.0 (sym c.in-ok-sources.ensures),
+  filled_more source_format 4 (Column 0) (bits_of c.args.file.now) c.args.count c.args.start c.loop-i.i _ _ _ c.loop-i-test.true (omega arith) c.loop-i.invariant.0 (sym c.in_ok-sources.ensures),
   omega arith,
 )
 

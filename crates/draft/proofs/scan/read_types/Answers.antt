@@ -6,17 +6,17 @@ use Rattle.draft.specs.File.{type_format}
 use Rattle.draft.proofs.Loops.{filled_more, filled_fails, filled_all}
 use Rattle.draft.proofs.scan.read_types.Goals as goal
 
-pub returns-in-err-types : goal.returns-in-err-types
-returns-in-err-types c =
-    let p = err_from_is_err_and c.from-residual.result c.from-residual.ensures.1 in
+pub returns-in_err-types : goal.returns-in_err-types
+returns-in_err-types c =
+    let p = err_from_is_err_and c.from_residual.result c.from_residual.ensures.1 in
     rw (p.1, p.2) (record {
-      value = (filled_fails type_format 8 Binary (bits_of c.args.file.now) c.args.count c.args.start c.loop-i.i _ _ _ c.loop-i-test.true c.loop-i.invariant.0 (sym c.in-err-types.ensures));
+      value = (filled_fails type_format 8 Binary (bits_of c.args.file.now) c.args.count c.args.start c.loop-i.i _ _ _ c.loop-i-test.true c.loop-i.invariant.0 (sym c.in_err-types.ensures));
       near = tt;
     })
 
 pub loop-i-preserved : goal.loop-i-preserved
 loop-i-preserved c = (
-  filled_more type_format 8 Binary (bits_of c.args.file.now) c.args.count c.args.start c.loop-i.i _ _ _ c.loop-i-test.true (omega arith) c.loop-i.invariant.0 (sym c.in-ok-types.ensures),
+  filled_more type_format 8 Binary (bits_of c.args.file.now) c.args.count c.args.start c.loop-i.i _ _ _ c.loop-i-test.true (omega arith) c.loop-i.invariant.0 (sym c.in_ok-types.ensures),
   omega arith,
 )
 
