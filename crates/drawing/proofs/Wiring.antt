@@ -1,5 +1,5 @@
 -- Laws of `feeders` and `net`.
-use Rattle.std.proofs.Common.{◌≡◌, ℕ, zero, suc, ◌<◌, Bool, false, ◌⊎◌, List, [], ◌∷◌, map, length, get_or, Some, vec_items, Decides, sym, refl, ap, ◌∙◌, subst, ⊎_elim, arith}
+use Rattle.std.proofs.Common.{◌≡◌, ℕ, zero, suc, ◌<◌, Bool, false, List, [], ◌∷◌, map, length, get_or, Some, vec_items, Decides, sym, refl, ap, ◌∙◌, subst, ⊎_elim, arith}
 use borrow.Author.Tests.{both_ways}
 use Rattle.std.specs.List.{ContainsAt as Has, slice_get}
 use Rattle.drawing.proofs.Types.{nth_map}

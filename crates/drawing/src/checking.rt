@@ -37,8 +37,8 @@ fn check_block<L: BlockLibrary>(
     block: &Block,
 ) -> Result<Signature, CheckFault>
     ensures { MatchResult result
-        (Fits (meaning library.now) block.now)
-        (BlockFault (meaning library.now) b block.now) }
+        (Fits (L.meaning library.now) block.now)
+        (BlockFault (L.meaning library.now) b block.now) }
 {
     let kind = block.kind();
     let params = block.params();
@@ -68,8 +68,8 @@ fn sign_all<L: BlockLibrary>(
     blocks: &[Block],
 ) -> Result<Vec<Signature>, CheckError>
     ensures { MatchResult result
-        (λ v. AllFit (meaning library.now) blocks.now v.items)
-        (λ e. (cs : List ValueType) → Refuses (meaning library.now) cs blocks.now e) }
+        (λ v. AllFit (L.meaning library.now) blocks.now v.items)
+        (λ e. (cs : List ValueType) → Refuses (L.meaning library.now) cs blocks.now e) }
 {
     let mut signatures = Vec::new(heap);
     for (b, block) in blocks.iter().enumerate() {
@@ -164,9 +164,9 @@ fn judge<L: BlockLibrary>(
     blocks: &[Block],
 ) -> Result<Plan, CheckError>
     ensures { MatchResult result
-        (λ p. Planned (meaning library.now) columns.now blocks.now
+        (λ p. Planned (L.meaning library.now) columns.now blocks.now
         p.signatures.items p.order.items)
-        (Refuses (meaning library.now) columns.now blocks.now) }
+        (Refuses (L.meaning library.now) columns.now blocks.now) }
 {
     let signatures = sign_all(heap, library, blocks)?;
     check_inputs(columns, blocks, &signatures)?;
@@ -177,8 +177,8 @@ fn judge<L: BlockLibrary>(
 // Checks a draft: it is accepted exactly when it suits the library, else it comes back with the first fault.
 pub fn check<L: BlockLibrary>(heap: Global, library: &L, draft: Draft) -> Result<Drawing, Rejected>
     ensures { MatchResult result
-        (Accepts (meaning library.now) draft)
-        (Rejects (meaning library.now) draft) }
+        (Accepts (L.meaning library.now) draft)
+        (Rejects (L.meaning library.now) draft) }
 {
     match judge(heap, library, draft.columns(), draft.blocks()) {
         Ok(plan) => Ok(Drawing {

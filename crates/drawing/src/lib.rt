@@ -1,4 +1,6 @@
 // The check of a drawing: from a draft to a drawing whose types agree and whose blocks have an order.
+#![tactic(auto)]
+
 mod access;
 mod built_in;
 mod checking;
@@ -6,7 +8,6 @@ mod drawing;
 mod fault;
 mod laws;
 mod order;
-mod placed;
 mod reports;
 
 pub use checking::check;

@@ -6,18 +6,23 @@ ghost use Rattle.drawing.specs.Tests.{Unordered};
 ghost use Rattle.drawing.specs.Wiring.{feeders, net};
 
 use crate::fault::{CheckError, CheckFault};
-use crate::placed::Placed;
 use blocks::Signature;
 use draft::{Block, Source};
 use std::alloc::{AllocError, Global};
 
+fn placed(order: &[usize], v: usize) -> bool
+    ensures { result ≡ among v order.now }
+{
+    order.contains(&v)
+}
+
 // Whether each block among the sources is placed.
-fn all_placed(sources: &[Source], placed: &Placed) -> bool
-    ensures { Decides result ((u : ℕ) → In u (feeders sources.now) → In u placed.now.order.items) }
+fn all_placed(sources: &[Source], order: &[usize]) -> bool
+    ensures { Decides result ((u : ℕ) → In u (feeders sources.now) → In u order.now) }
 {
     for s in sources {
         if let Source::Block(u) = *s {
-            if !placed.has(u as usize) {
+            if !placed(order, u as usize) {
                 return false;
             }
         }
@@ -26,30 +31,30 @@ fn all_placed(sources: &[Source], placed: &Placed) -> bool
 }
 
 // Whether the sources of a block allow it to be placed: it delays, or they are all placed.
-fn allowed(signature: Signature, sources: &[Source], placed: &Placed) -> bool
+fn allowed(signature: Signature, sources: &[Source], order: &[usize]) -> bool
     ensures { Decides result
-        (signature.delaying ≡ false → (u : ℕ) → In u (feeders sources.now) → In u placed.now.order.items) }
+        (signature.delaying ≡ false → (u : ℕ) → In u (feeders sources.now) → In u order.now) }
 {
-    signature.delaying || all_placed(sources, placed)
+    signature.delaying || all_placed(sources, order)
 }
 
 // Whether block `v` is not placed yet, and its sources allow it.
-fn ready(blocks: &[Block], signatures: &[Signature], placed: &Placed, v: usize) -> bool
+fn ready(blocks: &[Block], signatures: &[Signature], order: &[usize], v: usize) -> bool
     requires { (v < length blocks.now) × (length signatures.now ≡ length blocks.now) }
-    ensures { Decides result (Ready (net blocks.now signatures.now) placed.now.order.items v) }
+    ensures { Decides result (Ready (net blocks.now signatures.now) order.now v) }
 {
-    !placed.has(v) && allowed(signatures[v], blocks[v].sources(), placed)
+    !placed(order, v) && allowed(signatures[v], blocks[v].sources(), order)
 }
 
 // The lowest block that can be placed.
-fn next(blocks: &[Block], signatures: &[Signature], placed: &Placed) -> Option<usize>
+fn next(blocks: &[Block], signatures: &[Signature], order: &[usize]) -> Option<usize>
     requires { length signatures.now ≡ length blocks.now }
     ensures { MatchOption result
-        (Stopped (net blocks.now signatures.now) placed.now.order.items)
-        (Next (net blocks.now signatures.now) placed.now.order.items) }
+        (Stopped (net blocks.now signatures.now) order.now)
+        (Next (net blocks.now signatures.now) order.now) }
 {
     for v in 0..blocks.len() {
-        if ready(blocks, signatures, placed, v) {
+        if ready(blocks, signatures, order, v) {
             return Some(v);
         }
     }
@@ -57,27 +62,31 @@ fn next(blocks: &[Block], signatures: &[Signature], placed: &Placed) -> Option<u
 }
 
 // Places blocks until none can be placed.
-fn place_all(heap: Global, blocks: &[Block], signatures: &[Signature]) -> Result<Placed, AllocError>
+fn place_all(
+    heap: Global,
+    blocks: &[Block],
+    signatures: &[Signature],
+) -> Result<Vec<usize>, AllocError>
     requires { length signatures.now ≡ length blocks.now }
-    ensures { IfOk result (λ p.
-        Placing (net blocks.now signatures.now) p.order.items
-        × Stopped (net blocks.now signatures.now) p.order.items) }
+    ensures { IfOk result (λ o.
+        Placing (net blocks.now signatures.now) o.items
+        × Stopped (net blocks.now signatures.now) o.items) }
 {
-    let mut placed = Placed::new(heap);
-    while let Some(v) = next(blocks, signatures, &placed) {
-        placed.push(v)?;
+    let mut order = Vec::new(heap);
+    while let Some(v) = next(blocks, signatures, &order) {
+        order.push(v)?;
     }
-    Ok(placed)
+    Ok(order)
 }
 
 // The lowest block that is not placed.
-fn unplaced(placed: &Placed, blocks: usize) -> Option<usize>
+fn unplaced(order: &[usize], blocks: usize) -> Option<usize>
     ensures { MatchOption result
-        ((u : ℕ) → u < blocks → In u placed.now.order.items)
-        (λ v. (v < blocks) × (among v placed.now.order.items ≡ false) × ((u : ℕ) → u < v → In u placed.now.order.items)) }
+        ((u : ℕ) → u < blocks → In u order.now)
+        (λ v. (v < blocks) × (among v order.now ≡ false) × ((u : ℕ) → u < v → In u order.now)) }
 {
     for v in 0..blocks {
-        if !placed.has(v) {
+        if !placed(order, v) {
             return Some(v);
         }
     }
@@ -97,9 +106,9 @@ pub(crate) fn arrange(
         (λ o. Arranged (net blocks.now signatures.now) o.items)
         (Unordered (net blocks.now signatures.now)) }
 {
-    let placed = place_all(heap, blocks, signatures)?;
-    match unplaced(&placed, blocks.len()) {
+    let order = place_all(heap, blocks, signatures)?;
+    match unplaced(&order, blocks.len()) {
         Some(v) => Err(CheckError::Fault(CheckFault::Loop(v))),
-        None => Ok(placed.into_order()),
+        None => Ok(order),
     }
 }

@@ -3,12 +3,11 @@ use Rattle.drawing.specs.Sound.{Sound}
 use Rattle.drawing.proofs.Accepting.{accepts, rejects}
 use Rattle.drawing.proofs.checking.check.Goals as goal
 
-pub invariant-of-result : goal.invariant-of-result
-invariant-of-result g c = (
-  ∣ subst₂ (λ cs bs. Sound cs bs (vec_items c.in-Ok.plan.signatures) (vec_items c.in-Ok.plan.order))
-      c.columns.ensures c.blocks-2.ensures c.in-Ok.ensures.keeps ∣₁,
-  tt,
-)
+pub invariant_of-result : goal.invariant_of-result
+invariant_of-result g c = record {
+  sound = ∣ subst₂ (λ cs bs. Sound cs bs (vec_items c.in-Ok.plan.signatures) (vec_items c.in-Ok.plan.order))
+      c.columns.ensures c.blocks-2.ensures c.in-Ok.ensures.keeps ∣₁;
+}
 
 pub returns-in-Ok : goal.returns-in-Ok
 returns-in-Ok g c = accepts (g.L.BlockLibrary.meaning c.args.library.now) _ _ _ c.columns.ensures c.blocks-2.ensures _ refl c.in-Ok.ensures

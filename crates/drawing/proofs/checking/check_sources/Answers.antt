@@ -4,9 +4,9 @@ use Rattle.blocks.specs.Library.{listed}
 use Rattle.drawing.proofs.Sources.{absent_fault, type_fault, joined_more, joined_all}
 use Rattle.drawing.proofs.checking.check_sources.Goals as goal
 
-pub returns-in-default : goal.returns-in-default
-returns-in-default c = absent_fault _ c.args.signatures.now c.args.b _ (listed c.args.inputs) _ c.loop-i-test.true
-    c.loop-i.invariant _ c.in-default.ensures
+pub returns-in_default : goal.returns-in_default
+returns-in_default c = absent_fault _ c.args.signatures.now c.args.b _ (listed c.args.inputs) _ c.loop-i-test.true
+    c.loop-i.invariant _ c.in_default.ensures
 
 pub returns-then-not-has : goal.returns-then-not-has
 returns-then-not-has c =

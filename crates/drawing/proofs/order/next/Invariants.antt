@@ -1,7 +1,7 @@
-use Rattle.std.proofs.Common.{ℕ, ◌<◌, vec_items}
+use Rattle.std.proofs.Common.{ℕ, ◌<◌}
 use Rattle.drawing.specs.Net.{Ready}
 use Rattle.drawing.specs.Wiring.{net}
 use Rattle.drawing.proofs.order.next.Given as goal
 
 abbrev pub invariant-loop-v : goal.invariant-loop-v
-invariant-loop-v l = (u : ℕ) → u < l.v → Ready (net l.blocks l.signatures) (vec_items l.placed.order) u → ⊥
+invariant-loop-v l = (u : ℕ) → u < l.v → Ready (net l.blocks l.signatures) l.order u → ⊥

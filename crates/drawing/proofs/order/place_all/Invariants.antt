@@ -4,7 +4,7 @@ use Rattle.drawing.specs.Wiring.{net}
 use Rattle.drawing.proofs.order.place_all.Given as goal
 
 abbrev pub invariant-loop-v : goal.invariant-loop-v
-invariant-loop-v l = Placing (net l.blocks l.signatures) (vec_items l.placed.order)
+invariant-loop-v l = Placing (net l.blocks l.signatures) (vec_items l.order)
 
 abbrev pub decreases-loop-v : goal.decreases-loop-v
-decreases-loop-v l = length l.blocks - length (vec_items l.placed.order)
+decreases-loop-v l = length l.blocks - length (vec_items l.order)
