@@ -1,4 +1,6 @@
 // Worked examples of the check, as theorems.
+#![tactic(auto)]
+
 mod examples;
 
 pub use examples::{
