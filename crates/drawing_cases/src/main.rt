@@ -1,4 +1,6 @@
 // Checks the drawings of a table against the plant library, and says what the check makes of each.
+#![tactic(auto)]
+
 mod hex;
 
 use crate::hex::bytes_of;
