@@ -1,7 +1,7 @@
 -- Laws of bits that are written.
 use Rattle.std.proofs.Common.{◌≡◌, ℕ, zero, suc, ◌+◌, ◌-◌, ◌*◌, ◌/◌, ◌%◌, ◌^◌, ◌<◌, List, [], ◌∷◌, ◌++◌, length, get_or, take, drop, set, replicate, sym, refl, ap, ◌∙◌, subst, append_assoc, append-nil, add-zero, add_assoc, add-suc, mul_assoc, pow-suc, add-one, arith, length-append}
 use Rattle.draft.specs.File.{zero_bit}
-use Rattle.std.proofs.lemmas.Nat.{pow_pos, pow-add, mod_below, shr_below, shr_split, shr-shr}
+use Rattle.std.proofs.lemmas.Nat.{pow_pos, pow-add, mod_below, shr_below, shr_split}
 use lib.Arith.{digits_lt}
 use Rattle.std.proofs.lemmas.List.{replicate_more, take_at, drop_at, drop-drop}
 use Rattle.draft.specs.Bits.{field, bits_of}
@@ -22,14 +22,15 @@ put_then a b c p xs ys h k =
           ∙ drop-drop (length ys) (p + length xs) a ∙ ap (λ n. drop n a) (sym far),
     )
 
--- some bits in place of as many
-put_some : (xs os ns ys : List ℕ) → length os ≡ length ns → Put (xs ++ (os ++ ys)) (xs ++ (ns ++ ys)) (length xs) ns
-put_some xs os ns ys same =
-    let back : (zs : List ℕ) → length zs ≡ length ns → drop (length xs + length ns) (xs ++ (zs ++ ys)) ≡ ys =
-    λ zs e. ap (drop (length xs + length ns)) (sym (append_assoc xs zs ys)) ∙ drop_at (xs ++ zs) ys (length xs + length ns) (length-append xs zs ∙ ap (λ n. length xs + n) e) in (
-      ap (take (length xs + length ns)) (sym (append_assoc xs ns ys)) ∙ take_at (xs ++ ns) ys (length xs + length ns) (length-append xs ns)
-          ∙ ap (λ l. l ++ ns) (sym (take_at xs (os ++ ys) (length xs) refl)),
-      back ns refl ∙ sym (back os same),
+-- one bit in place of another
+put_one : (xs : List ℕ) (o n : ℕ) (ys : List ℕ) → Put (xs ++ o ∷ ys) (xs ++ n ∷ ys) (length xs) (n ∷ [])
+put_one xs o n ys =
+    let long : (z : ℕ) → length (xs ++ z ∷ []) ≡ length xs + 1 = λ z. length-append xs (z ∷ []) in
+    let back : (z : ℕ) → drop (length xs + 1) (xs ++ z ∷ ys) ≡ ys =
+    λ z. ap (drop (length xs + 1)) (sym (append_assoc xs (z ∷ []) ys)) ∙ drop_at (xs ++ z ∷ []) ys (length xs + 1) (long z) in (
+      ap (take (length xs + 1)) (sym (append_assoc xs (n ∷ []) ys)) ∙ take_at (xs ++ n ∷ []) ys (length xs + 1) (long n)
+          ∙ ap (λ l. l ++ n ∷ []) (sym (take_at xs (o ∷ ys) (length xs) refl)),
+      back n ∙ sym (back o),
     )
 
 -- a field in two parts
@@ -46,80 +47,61 @@ field_split m (suc n) hi lo h =
     ∙ (λ i. field (m + n) (half i) ++ (low i ∷ []))
     ∙ ap (λ l. l ++ (lo % 2 ∷ [])) (field_split m n hi (lo / 2) small) ∙ append_assoc (field m hi) (field n (lo / 2)) (lo % 2 ∷ [])
 
--- only so many bits of the number count
-field_low : (n v : ℕ) → field n (v % 2 ^ n) ≡ field n v
-field_low n v =
-    let all : 0 + n ≡ n = omega arith in
-    sym (field_split 0 n (v / 2 ^ n) (v % 2 ^ n) (mod_below v (2 ^ n) (pow_pos n))) ∙ (λ i. field (all i) (shr_split v n i))
+-- a byte with one bit changed, before which stand j bits, and s after it
+abbrev pub changed : ℕ → ℕ → ℕ → ℕ
+changed b s bit = (b / 2 ^ s / 2 * 2 + bit) * 2 ^ s + b % 2 ^ s
 
-pub field_joined : (n hi lo m : ℕ) → field (m + n) (hi * 2 ^ n + lo % 2 ^ n) ≡ field m hi ++ field n lo
-field_joined n hi lo m = field_split m n hi (lo % 2 ^ n) (mod_below lo (2 ^ n) (pow_pos n)) ∙ ap (λ l. field m hi ++ l) (field_low n lo)
+byte_parts : (b s j : ℕ) → suc j + s ≡ 8 → field 8 b ≡ field j (b / 2 ^ s / 2) ++ (b / 2 ^ s % 2) ∷ field s (b % 2 ^ s)
+byte_parts b s j e =
+    (λ i. field (sym e i) (sym (shr_split b s) i)) ∙ field_split (suc j) s (b / 2 ^ s) (b % 2 ^ s) (mod_below b (2 ^ s) (pow_pos s))
+    ∙ append_assoc (field j (b / 2 ^ s / 2)) (b / 2 ^ s % 2 ∷ []) (field s (b % 2 ^ s))
 
--- a byte with w bits changed, before which stand j bits, and s after them
-abbrev pub changed : ℕ → ℕ → ℕ → ℕ → ℕ
-changed b s w v = (b / 2 ^ s / 2 ^ w * 2 ^ w + v) * 2 ^ s + b % 2 ^ s
+changed_parts : (b s j bit : ℕ) → bit < 2 → suc j + s ≡ 8 → field 8 (changed b s bit) ≡ field j (b / 2 ^ s / 2) ++ bit ∷ field s (b % 2 ^ s)
+changed_parts b s j bit t e =
+    let h = b / 2 ^ s / 2 in
+    let half : (h * 2 + bit) / 2 ≡ h = omega arith in
+    let low : (h * 2 + bit) % 2 ≡ bit = omega arith in
+    ap (λ n. field n (changed b s bit)) (sym e) ∙ field_split (suc j) s (h * 2 + bit) (b % 2 ^ s) (mod_below b (2 ^ s) (pow_pos s))
+    ∙ (λ i. (field j (half i) ++ (low i ∷ [])) ++ field s (b % 2 ^ s))
+    ∙ append_assoc (field j h) (bit ∷ []) (field s (b % 2 ^ s))
 
-module _ (b s w j : ℕ) (e : j + w + s ≡ 8) where
-  abbrev high : ℕ
-  high = b / 2 ^ s / 2 ^ w
+pub changed_small : (b s j bit : ℕ) → b < 256 → bit < 2 → suc j + s ≡ 8 → changed b s bit < 256
+changed_small b s j bit h t e =
+    let top : b / 2 ^ s < 2 ^ suc j = shr_below b (suc j) s (subst (λ n. b < 2 ^ n) (sym e) h) in
+    let high : b / 2 ^ s / 2 * 2 + bit < 2 ^ suc j = omega (arith, pow-suc 2 j) in
+    let all : 2 ^ suc j * 2 ^ s ≡ 256 = sym (pow-add 2 (suc j) s) ∙ ap (λ n. 2 ^ n) e in
+    omega (arith, all, digits_lt high (mod_below b (2 ^ s) (pow_pos s)))
 
-  parts : (v : ℕ) → v < 2 ^ w → field 8 ((high * 2 ^ w + v) * 2 ^ s + b % 2 ^ s) ≡ field j high ++ (field w v ++ field s (b % 2 ^ s))
-  parts v t =
-      ap (λ n. field n ((high * 2 ^ w + v) * 2 ^ s + b % 2 ^ s)) (sym e)
-      ∙ field_split (j + w) s (high * 2 ^ w + v) (b % 2 ^ s) (mod_below b (2 ^ s) (pow_pos s))
-      ∙ ap (λ l. l ++ field s (b % 2 ^ s)) (field_split j w high v t)
-      ∙ append_assoc (field j high) (field w v) (field s (b % 2 ^ s))
-
-  byte_parts : field 8 b ≡ field j high ++ (field w (b / 2 ^ s % 2 ^ w) ++ field s (b % 2 ^ s))
-  byte_parts =
-      ap (field 8) (sym (shr_split b s) ∙ ap (λ h. h * 2 ^ s + b % 2 ^ s) (sym (shr_split (b / 2 ^ s) w)))
-      ∙ parts (b / 2 ^ s % 2 ^ w) (mod_below (b / 2 ^ s) (2 ^ w) (pow_pos w))
-
-  pub changed_small : (v : ℕ) → b < 256 → v < 2 ^ w → changed b s w v < 256
-  changed_small v h t =
-      let top : b / 2 ^ s < 2 ^ (j + w) = shr_below b (j + w) s (subst (λ n. b < 2 ^ n) (sym e) h) in
-      let all : 2 ^ j * 2 ^ w * 2 ^ s ≡ 256 = ap (λ k. k * 2 ^ s) (sym (pow-add 2 j w)) ∙ sym (pow-add 2 (j + w) s) ∙ ap (λ n. 2 ^ n) e in
-      omega (arith, all, digits_lt (digits_lt (shr_below (b / 2 ^ s) j w top) t) (mod_below b (2 ^ s) (pow_pos s)))
-
--- the bits before and after bit j of byte q, and w bits there
-spot : (bs : List ℕ) (q s w j v : ℕ) → q < length bs → v < 2 ^ w → j + w + s ≡ 8 → (xs : List ℕ) × (os : List ℕ) × (ys : List ℕ) × (length xs ≡ 8 * q + j) × (length os ≡ w) × (bits_of bs ≡ xs ++ (os ++ ys)) × (bits_of (set bs q (changed (get_or bs q 0) s w v)) ≡ xs ++ (field w v ++ ys))
+-- the bits before and after bit j of byte q
+spot : (bs : List ℕ) (q s j bit : ℕ) → q < length bs → bit < 2 → suc j + s ≡ 8 → (xs : List ℕ) × (o : ℕ) × (ys : List ℕ) × (length xs ≡ 8 * q + j) × (bits_of bs ≡ xs ++ o ∷ ys) × (bits_of (set bs q (changed (get_or bs q 0) s bit)) ≡ xs ++ bit ∷ ys)
 unfolding bits_of
-spot [] q s w j v h t e = absurd (omega arith)
-spot (b ∷ bs) zero s w j v h t e = (
-  field j (b / 2 ^ s / 2 ^ w),
-  field w (b / 2 ^ s % 2 ^ w),
+spot [] q s j bit h t e = absurd (omega arith)
+spot (b ∷ bs) zero s j bit h t e = (
+  field j (b / 2 ^ s / 2),
+  b / 2 ^ s % 2,
   field s (b % 2 ^ s) ++ bits_of bs,
-  omega (arith, length_field j (b / 2 ^ s / 2 ^ w)),
-  length_field w (b / 2 ^ s % 2 ^ w),
-  ap (λ l. l ++ bits_of bs) (byte_parts b s w j e) ∙ in_three (field j (b / 2 ^ s / 2 ^ w)) (field w (b / 2 ^ s % 2 ^ w)) (field s (b % 2 ^ s)) (bits_of bs),
-  ap (λ l. l ++ bits_of bs) (parts b s w j e v t) ∙ in_three (field j (b / 2 ^ s / 2 ^ w)) (field w v) (field s (b % 2 ^ s)) (bits_of bs),
-) where
-  in_three : (xs os ys zs : List ℕ) → (xs ++ (os ++ ys)) ++ zs ≡ xs ++ (os ++ (ys ++ zs))
-  in_three xs os ys zs = append_assoc xs (os ++ ys) zs ∙ ap (λ l. xs ++ l) (append_assoc os ys zs)
-spot (b ∷ bs) (suc q) s w j v h t e =
-    let r = spot bs q s w j v (omega arith) t e in (
+  omega (arith, length_field j (b / 2 ^ s / 2)),
+  ap (λ l. l ++ bits_of bs) (byte_parts b s j e) ∙ append_assoc (field j (b / 2 ^ s / 2)) _ (bits_of bs),
+  ap (λ l. l ++ bits_of bs) (changed_parts b s j bit t e) ∙ append_assoc (field j (b / 2 ^ s / 2)) _ (bits_of bs),
+)
+spot (b ∷ bs) (suc q) s j bit h t e =
+    let r = spot bs q s j bit (omega arith) t e in (
       field 8 b ++ r.0,
       r.1,
       r.2,
       length-append (field 8 b) r.0 ∙ omega (arith, r.3),
-      r.4,
+      ap (λ l. field 8 b ++ l) r.4 ∙ sym (append_assoc (field 8 b) r.0 _),
       ap (λ l. field 8 b ++ l) r.5 ∙ sym (append_assoc (field 8 b) r.0 _),
-      ap (λ l. field 8 b ++ l) r.6 ∙ sym (append_assoc (field 8 b) r.0 _),
     )
 
-pub put_part : (bs : List ℕ) (i s w v : ℕ) → i < 8 * length bs → v < 2 ^ w → i % 8 + w + s ≡ 8 → Put (bits_of bs) (bits_of (set bs (i / 8) (changed (get_or bs (i / 8) 0) s w v))) i (field w v)
-put_part bs i s w v h t e =
-    let r = spot bs (i / 8) s w (i % 8) v (omega arith) t e in
+pub put_bit : (bs : List ℕ) (i s bit : ℕ) → i < 8 * length bs → bit < 2 → s ≡ 7 - i % 8 → Put (bits_of bs) (bits_of (set bs (i / 8) (changed (get_or bs (i / 8) 0) s bit))) i (bit ∷ [])
+put_bit bs i s bit h t e =
+    let eight : suc (i % 8) + s ≡ 8 = omega arith in
+    let r = spot bs (i / 8) s (i % 8) bit (omega arith) t eight in
     let at : length r.0 ≡ i = r.3 ∙ omega arith in
-    subst (λ p. Put (bits_of bs) (bits_of (set bs (i / 8) (changed (get_or bs (i / 8) 0) s w v))) p (field w v)) at
-    (subst (λ a. Put a (bits_of (set bs (i / 8) (changed (get_or bs (i / 8) 0) s w v))) (length r.0) (field w v)) (sym r.5)
-    (subst (λ a. Put (r.0 ++ (r.1 ++ r.2)) a (length r.0) (field w v)) (sym r.6) (put_some r.0 r.1 (field w v) r.2 (r.4 ∙ sym (length_field w v)))))
-
--- a field's next part, of n bits, before which m bits are written and after which k are left
-pub field_next : (m n k v : ℕ) → field (m + n) (v / 2 ^ k) ≡ field m (v / 2 ^ (k + n)) ++ field n (v / 2 ^ k % 2 ^ n)
-field_next m n k v =
-    ap (field (m + n)) (sym (shr_split (v / 2 ^ k) n) ∙ ap (λ h. h * 2 ^ n + v / 2 ^ k % 2 ^ n) (shr-shr v k n))
-    ∙ field_split m n (v / 2 ^ (k + n)) (v / 2 ^ k % 2 ^ n) (mod_below (v / 2 ^ k) (2 ^ n) (pow_pos n))
+    subst (λ p. Put (bits_of bs) (bits_of (set bs (i / 8) (changed (get_or bs (i / 8) 0) s bit))) p (bit ∷ [])) at
+    (subst (λ a. Put a (bits_of (set bs (i / 8) (changed (get_or bs (i / 8) 0) s bit))) (length r.0) (bit ∷ [])) (sym r.4)
+    (subst (λ a. Put (r.0 ++ r.1 ∷ r.2) a (length r.0) (bit ∷ [])) (sym r.5) (put_one r.0 r.1 bit r.2)))
 
 module _ {A B : Type 0} (F : Format A) (G : A → Format B) (f : Exact F) where
   pub writes_then : (a : A) (b : B) (x y z : List ℕ) (p q r : ℕ) → Writes F a x y p q → Writes (G a) b y z q r → Writes (then F G) (a, b) x z p r

@@ -1,6 +1,6 @@
 -- What writing a draft leaves in the memory that it is given.
 use Rattle.std.specs.Prelude.{◌≡◌, ℕ, ◌*◌, ◌<◌, ◌≤◌, List, length, take, drop, Ok, Err, Result, MatchResult}
-use Rattle.std.specs.List.{AllByRecursion as All}
+use Rattle.std.specs.List.{AllByRecursion}
 use Rattle.faults.specs.declared.fault.Fault.{Fault}
 use Rattle.faults.specs.declared.fault.Fault.TheVariants.{OutputShort}
 use Rattle.draft.specs.File.{DraftOf, draft_format, FileOf, read_file}
@@ -12,4 +12,4 @@ Written d before after (Err e) = (e ≡ OutputShort) × (8 * length before < len
 
 -- what was read writes back as the same bytes: whichever file the draft was read from, that is what is written, and it fits memory of its length
 abbrev pub Rewritten : DraftOf → List ℕ → List ℕ → Result ℕ Fault → Type 0
-Rewritten d before after r = (file : List ℕ) → All (λ b. b < 256) file → read_file file ≡ Ok d → MatchResult r (λ n. take n after ≡ file) (λ _. length before < length file)
+Rewritten d before after r = (file : List ℕ) → AllByRecursion (λ b. b < 256) file → read_file file ≡ Ok d → MatchResult r (λ n. take n after ≡ file) (λ _. length before < length file)

@@ -4,7 +4,7 @@ ghost use Rattle.draft.specs.Format.{times};
 ghost use Rattle.draft.specs.File.{source_format, cell_format, param_format, padding_format, name_byte, block_head, block_format, tag_of, cell_parts, source_parts, width_of};
 ghost use Rattle.packed.specs.Put.{Writes};
 
-use crate::bitfield::{joined, put_field};
+use crate::bitfield::put_field;
 use draft::Source;
 use values::{Cell, Value};
 
@@ -18,8 +18,7 @@ pub(crate) struct BlockHead {
 }
 
 pub(crate) fn source_parts(source: Source) -> (u32, u32)
-    ensures value { result ≡ source_parts source }
-    ensures small { result.0 < 2 }
+    ensures { result ≡ source_parts source }
 {
     match source {
         Source::Column(n) => (0, u32::from(n)),
@@ -33,7 +32,8 @@ pub(crate) fn write_source(out: &mut [u8], at: usize, source: Source) -> usize
     ensures { Writes source_format source out.old out.new at result }
 {
     let (is_block, number) = source_parts(source);
-    put_field(out, at, 8, joined(is_block, 7, number));
+    put_field(out, at, 1, is_block);
+    put_field(out, at + 1, 7, number);
     at + 8
 }
 
@@ -132,10 +132,10 @@ pub(crate) fn write_head(out: &mut [u8], at: usize, head: BlockHead) -> usize
     ensures value { Writes block_head (head.kind, (head.inputs, (head.params, head.name_len))) out.old out.new at result }
     ensures near { result ≡ at + 16 }
 {
-    let front = joined(u32::from(head.kind), 3, u32::from(head.inputs));
-    let ports = joined(front, 3, u32::from(head.params));
-    let whole = joined(ports, 4, u32::from(head.name_len));
-    put_field(out, at, 16, whole);
+    put_field(out, at, 6, u32::from(head.kind));
+    put_field(out, at + 6, 3, u32::from(head.inputs));
+    put_field(out, at + 9, 3, u32::from(head.params));
+    put_field(out, at + 12, 4, u32::from(head.name_len));
     at + 16
 }
 

@@ -1,4 +1,6 @@
 // Packed files: a draft is written to one, and a drawing is loaded from one.
+#![tactic(auto)]
+
 mod bitfield;
 mod emit;
 mod laws;

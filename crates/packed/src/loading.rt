@@ -71,7 +71,7 @@ impl LoadFault {
 
 // The drawing of a file, or the first fault of the file or of its draft.
 pub fn load<L: BlockLibrary>(heap: Global, library: &L, file: &[u8]) -> Result<Drawing, LoadError>
-    ensures { MatchResult result (Loads (meaning library.now) file.now) (Unloaded (meaning library.now) file.now) }
+    ensures { MatchResult result (Loads (L.meaning library.now) file.now) (Unloaded (L.meaning library.now) file.now) }
 {
     let draft = read_draft(heap, file)?;
     match check(heap, library, draft) {

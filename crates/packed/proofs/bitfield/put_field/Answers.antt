@@ -1,31 +1,32 @@
-use Rattle.std.proofs.Common.{◌≡◌, ◌+◌, ◌-◌, ◌*◌, ◌/◌, ◌%◌, ◌^◌, ◌≤◌, ◌++◌, length, sym, ap, ◌∙◌, subst, arith}
-use Rattle.std.proofs.lemmas.Nat.{one_shl}
+use Rattle.std.proofs.Common.{◌≡◌, suc, ◌+◌, ◌-◌, ◌/◌, ◌%◌, ◌^◌, ◌<◌, ◌≤◌, [], ◌∷◌, ◌++◌, length, take, sym, ap, ◌∙◌, subst, arith}
+use Rattle.std.proofs.lemmas.List.{take_more, take_all, length-take-le}
 use Rattle.draft.specs.Bits.{field, bits_of}
-use Rattle.draft.proofs.BitLaws.{length_field}
 use Rattle.packed.specs.Put.{Put}
-use Rattle.packed.proofs.Puts.{put_then, field_next}
+use Rattle.draft.proofs.BitLaws.{length_field, getD_field}
+use Rattle.packed.proofs.Puts.{put_none, put_then}
 use Rattle.packed.proofs.bitfield.put_field.Goals as goal
 
-pub loop-left-preserved : goal.loop-left-preserved
-loop-left-preserved c =
-    let v = c.args.value in
+pub loop-i-init : goal.loop-i-init
+loop-i-init c = put_none (bits_of c.args.out.now) c.args.at
+
+pub loop-i-preserved : goal.loop-i-preserved
+loop-i-preserved c =
+    let i = c.loop-i.i in
     let w = c.args.width in
-    let left = c.loop-left.left in
-    let part = c.min-part.result in
-    let k = left - part in
-    let few : part ≤ 8 = omega arith in
-    let unit : 1 * 2 ^ part % 4294967296 ≡ 2 ^ part = one_shl part 32 (omega arith) in
-    let before = field (w - left) (v / 2 ^ left) in
-    let now = field part (v / 2 ^ k % 2 ^ part) in
-    let at : c.args.at + (w - left) ≡ c.args.at + length before = ap (λ n. c.args.at + n) (sym (length_field (w - left) (v / 2 ^ left))) in
-    let last : Put (bits_of c.loop-left.out) (bits_of c.put_part.new.out) (c.args.at + length before) now =
-    subst (λ p. Put (bits_of c.loop-left.out) (bits_of c.put_part.new.out) p now) at
-    (subst (λ u. Put (bits_of c.loop-left.out) (bits_of c.put_part.new.out) (c.args.at + (w - left)) (field part (v / 2 ^ k % u))) unit c.put_part.ensures) in
-    let long : w - k ≡ w - left + part = omega arith in
-    let whole : k + part ≡ left = omega arith in
-    let more : field (w - k) (v / 2 ^ k) ≡ before ++ now =
-    ap (λ n. field n (v / 2 ^ k)) long ∙ field_next (w - left) part k v ∙ ap (λ n. field (w - left) (v / 2 ^ n) ++ now) whole in (
-      omega arith,
-      subst (Put (bits_of c.args.out.now) (bits_of c.put_part.new.out) c.args.at) (sym more)
-          (put_then (bits_of c.args.out.now) (bits_of c.loop-left.out) (bits_of c.put_part.new.out) c.args.at before now c.loop-left.invariant.1 last),
-    )
+    let xs = field w c.args.value in
+    let k = w - 1 - i in
+    let bit = c.args.value / 2 ^ k % 2 in
+    let room : i < length xs = omega (arith, length_field w c.args.value) in
+    let few : i ≤ length xs = omega arith in
+    let place : i + suc k ≡ w = omega arith in
+    let more : take (i + 1) xs ≡ take i xs ++ bit ∷ [] =
+    take_more xs i 0 room ∙ ap (λ b. take i xs ++ b ∷ []) (getD_field w c.args.value i k place) in
+    let at : c.args.at + i ≡ c.args.at + length (take i xs) = ap (λ n. c.args.at + n) (sym (length-take-le i xs few)) in
+    let last = subst (λ p. Put (bits_of c.loop-i.out) (bits_of c.put_bit.new.out) p (bit ∷ [])) at c.put_bit.ensures in
+    subst (Put (bits_of c.args.out.now) (bits_of c.put_bit.new.out) c.args.at) (sym more)
+    (put_then (bits_of c.args.out.now) (bits_of c.loop-i.out) (bits_of c.put_bit.new.out) c.args.at (take i xs) (bit ∷ []) c.loop-i.invariant last)
+
+pub returns : goal.returns
+returns c =
+    let all = take_all c.loop-i.i (field c.args.width c.args.value) (omega (arith, length_field c.args.width c.args.value)) in
+    subst (Put (bits_of c.args.out.now) (bits_of c.loop-i.out) c.args.at) all c.loop-i.invariant

@@ -20,11 +20,11 @@ loop-byte-preserved c =
     let i = c.loop-byte.byte-index in
     let room : i < n = c.loop-byte-test.true in
     let x = c.args.out.now in
-    let z = c.write-name-byte-at.new.out in
+    let z = c.write_name_byte-at.new.out in
     let more = take_more xs i 0 room in (
-      subst (λ ys. Writes (times n name_byte) ys x z c.args.start c.write-name-byte-at.result) (sym more)
-          (writes_more n name_byte (times_exact n name_byte name_byte_exact) (take i xs) (get_or xs i 0) x c.loop-byte.out z c.args.start c.loop-byte.at c.write-name-byte-at.result c.loop-byte.invariant.0 c.write-name-byte-at.ensures),
-      omega (arith, c.write-name-byte-at.ensures.1),
+      subst (λ ys. Writes (times n name_byte) ys x z c.args.start c.write_name_byte-at.result) (sym more)
+          (writes_more n name_byte (times_exact n name_byte name_byte_exact) (take i xs) (get_or xs i 0) x c.loop-byte.out z c.args.start c.loop-byte.at c.write_name_byte-at.result c.loop-byte.invariant.0 c.write_name_byte-at.ensures),
+      omega (arith, c.write_name_byte-at.ensures.1),
     )
 
 pub returns : goal.returns

@@ -11,7 +11,7 @@ returns c =
     let at = c.args.at in
     record {
       value = (
-        subst (Put (bits_of c.args.out.now) (bits_of c.put-field.new.out) at) (bits_zeros at (gap at)) c.put-field.ensures,
+        subst (Put (bits_of c.args.out.now) (bits_of c.put_field.new.out) at) (bits_zeros at (gap at)) c.put_field.ensures,
         ap (λ n. at + n) (sym (size_all_zeros at (gap at))),
       );
       near = omega arith;

@@ -6,6 +6,6 @@ use Rattle.packed.proofs.emit.write_param.Goals as goal
 
 pub returns : goal.returns
 returns c = record {
-  value = subst (λ (x : Cell). Writes cell_format x c.args.out.now c.write-cell.new.out c.args.at c.write-cell.result) c.cell.ensures.value c.write-cell.ensures.value;
-  near = c.write-cell.ensures.near;
+  value = subst (λ (x : Cell). Writes cell_format x c.args.out.now c.write_cell.new.out c.args.at c.write_cell.result) c.cell.ensures.value c.write_cell.ensures.value;
+  near = c.write_cell.ensures.near;
 }

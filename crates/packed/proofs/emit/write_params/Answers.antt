@@ -21,11 +21,11 @@ loop-value-preserved c =
     let i = c.loop-value.value-index in
     let room : i < n = c.loop-value-test.true in
     let x = c.args.out.now in
-    let z = c.write-param-at.new.out in
+    let z = c.write_param-at.new.out in
     let more = take_more xs i (Values.Binary false) room in (
-      subst (λ ys. Writes (times n param_format) ys x z c.args.start c.write-param-at.result) (sym more)
-          (writes_more n param_format (times_exact n param_format param_exact) (take i xs) (get_or xs i (Values.Binary false)) x c.loop-value.out z c.args.start c.loop-value.at c.write-param-at.result c.loop-value.invariant.0 c.write-param-at.ensures.value),
-      omega (arith, c.write-param-at.ensures.near),
+      subst (λ ys. Writes (times n param_format) ys x z c.args.start c.write_param-at.result) (sym more)
+          (writes_more n param_format (times_exact n param_format param_exact) (take i xs) (get_or xs i (Values.Binary false)) x c.loop-value.out z c.args.start c.loop-value.at c.write_param-at.result c.loop-value.invariant.0 c.write_param-at.ensures.value),
+      omega (arith, c.write_param-at.ensures.near),
     )
 
 pub returns : goal.returns

@@ -21,11 +21,11 @@ loop-source-preserved c =
     let i = c.loop-source.source-index in
     let room : i < n = c.loop-source-test.true in
     let x = c.args.out.now in
-    let z = c.write-source-at.new.out in
+    let z = c.write_source-at.new.out in
     let more = take_more xs i (Column 0) room in (
-      subst (λ ys. Writes (times n source_format) ys x z c.args.start c.write-source-at.result) (sym more)
-          (writes_more n source_format (times_exact n source_format source_exact) (take i xs) (get_or xs i (Column 0)) x c.loop-source.out z c.args.start c.loop-source.at c.write-source-at.result c.loop-source.invariant.0 c.write-source-at.ensures),
-      omega (arith, c.write-source-at.ensures.1),
+      subst (λ ys. Writes (times n source_format) ys x z c.args.start c.write_source-at.result) (sym more)
+          (writes_more n source_format (times_exact n source_format source_exact) (take i xs) (get_or xs i (Column 0)) x c.loop-source.out z c.args.start c.loop-source.at c.write_source-at.result c.loop-source.invariant.0 c.write_source-at.ensures),
+      omega (arith, c.write_source-at.ensures.1),
     )
 
 pub returns : goal.returns

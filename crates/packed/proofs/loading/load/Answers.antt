@@ -6,4 +6,4 @@ use Rattle.packed.proofs.loading.load.Goals as goal
 pub returns-in-Err : goal.returns-in-Err
 returns-in-Err g c =
     subst (Unloaded (g.L.BlockLibrary.meaning c.args.library.now) c.args.file.now) (sym c.into.ensures)
-    (relays (g.L.BlockLibrary.meaning c.args.library.now) c.args.file.now c.in-ok-draft.draft c.in-Err.rejected.error c.in-ok-draft.ensures.value c.in-Err.ensures.error)
+    (relays (g.L.BlockLibrary.meaning c.args.library.now) c.args.file.now c.in_ok-draft.draft c.in-Err.rejected.error c.in_ok-draft.ensures.value c.in-Err.ensures.error)

@@ -13,12 +13,12 @@ returns c =
     let a = c.columns-types.ensures in
     let b = c.blocks-blocks.ensures in
     let x = c.args.out.now in
-    let w = c.write-blocks.new.out in
+    let w = c.write_blocks.new.out in
     record {
       value =
-          subst (λ (d : DraftOf). Writes draft_format d x w 0 c.write-blocks.result) (λ i. record { columns = a i; blocks = map block_means (b i) })
-          (draft_written cs (map block_means bs) x c.write-header-at.new.out c.write-columns-at.new.out w c.write-header-at.result c.write-columns-at.result c.write-blocks.result _
+          subst (λ (d : DraftOf). Writes draft_format d x w 0 c.write_blocks.result) (λ i. record { columns = a i; blocks = map block_means (b i) })
+          (draft_written cs (map block_means bs) x c.write_header-at.new.out c.write_columns-at.new.out w c.write_header-at.result c.write_columns-at.result c.write_blocks.result _
           (λ i. record { columns = length cs; blocks = sym (length-map bs block_means) i })
-          c.write-header-at.ensures.value c.write-columns-at.ensures.value c.write-blocks.ensures.value);
-      near = omega (arith, c.write-header-at.ensures.end, c.write-columns-at.ensures.near, c.write-blocks.ensures.near);
+          c.write_header-at.ensures.value c.write_columns-at.ensures.value c.write_blocks.ensures.value);
+      near = omega (arith, c.write_header-at.ensures.end, c.write_columns-at.ensures.near, c.write_blocks.ensures.near);
     }

@@ -22,12 +22,12 @@ loop-block-preserved c =
     let b = c.block-item.result in
     let room : i < n = c.loop-block-test.true in
     let x = c.args.out.now in
-    let z = c.pack-block-at.new.out in
+    let z = c.pack_block-at.new.out in
     let more : map block_means (take (i + 1) xs) ≡ map block_means (take i xs) ++ block_means b ∷ [] =
     ap (map block_means) (take_more xs i b room ∙ ap (λ y. take i xs ++ y ∷ []) (sym c.block-item.is)) ∙ map_push block_means (take i xs) b in (
-      subst (λ (ys : List BlockOf). Writes (times n block_format) ys x z c.args.start c.pack-block-at.result) (sym more)
-          (writes_more n block_format (times_exact n block_format block_exact) (map block_means (take i xs)) (block_means b) x c.loop-block.out z c.args.start c.loop-block.at c.pack-block-at.result c.loop-block.invariant.0 c.pack-block-at.ensures.value),
-      omega (arith, c.pack-block-at.ensures.near),
+      subst (λ (ys : List BlockOf). Writes (times n block_format) ys x z c.args.start c.pack_block-at.result) (sym more)
+          (writes_more n block_format (times_exact n block_format block_exact) (map block_means (take i xs)) (block_means b) x c.loop-block.out z c.args.start c.loop-block.at c.pack_block-at.result c.loop-block.invariant.0 c.pack_block-at.ensures.value),
+      omega (arith, c.pack_block-at.ensures.near),
     )
 
 pub returns : goal.returns

@@ -10,8 +10,8 @@ pub returns : goal.returns
 returns c =
     let ts = c.args.types.now in
     let n = length ts in
-    let at = c.write-types-at.result in
+    let at = c.write_types-at.result in
     record {
-      value = writes_then (times n type_format) (λ _. padding_format) (times_exact n type_format type_exact) ts tt c.args.out.now c.write-types-at.new.out c.write-padding.new.out c.args.start at c.write-padding.result c.write-types-at.ensures.value c.write-padding.ensures.value;
-      near = omega (arith, c.write-types-at.ensures.near, c.write-padding.ensures.near);
+      value = writes_then (times n type_format) (λ _. padding_format) (times_exact n type_format type_exact) ts tt c.args.out.now c.write_types-at.new.out c.write_padding.new.out c.args.start at c.write_padding.result c.write_types-at.ensures.value c.write_padding.ensures.value;
+      near = omega (arith, c.write_types-at.ensures.near, c.write_padding.ensures.near);
     }

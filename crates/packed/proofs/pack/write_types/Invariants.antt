@@ -4,5 +4,5 @@ use Rattle.draft.specs.File.{type_format}
 use Rattle.packed.specs.Put.{Writes}
 use Rattle.packed.proofs.pack.write_types.Given as goal
 
-abbrev pub invariant-loop-value-type : goal.invariant-loop-value-type
-invariant-loop-value-type l = Writes (times (length l.types) type_format) (take l.value-type-index l.types) l.initial.out l.out l.start l.at × (l.at ≤ l.start + 2 * l.value-type-index)
+abbrev pub invariant-loop-value_type : goal.invariant-loop-value_type
+invariant-loop-value_type l = Writes (times (length l.types) type_format) (take l.value_type-index l.types) l.initial.out l.out l.start l.at × (l.at ≤ l.start + 2 * l.value_type-index)
