@@ -1,5 +1,7 @@
 // Runs two tables of files and prints what becomes of each: good and damaged ones through load, random ones through the
 // reader. A table has a line for each file: a label, and the file's bytes in hexadecimal.
+#![tactic(auto)]
+
 mod hex;
 mod rewriting;
 
