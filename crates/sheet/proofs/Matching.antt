@@ -1,5 +1,5 @@
 -- Types of values, and lists of them, compared. Assumes nothing.
-use Rattle.std.proofs.Common.{◌≡◌, true, false, sym, refl, ap, ◌∙◌}
+use Rattle.std.proofs.Common.{◌≡◌, true, sym, refl, ap, ◌∙◌}
 use Rattle.std.proofs.lemmas.Bool.{false≢true}
 use Rattle.values.specs.declared.scalar.ValueType.{ValueType}
 use Rattle.values.specs.declared.scalar.ValueType.TheVariants.{Binary, Whole, Real}

@@ -1,4 +1,4 @@
--- What the calls on a sheet answer, refuse and leave. A fault is said whole, so that `reportOf` of it pins number, layer and place.
+-- What the calls on a sheet answer, refuse and leave. A fault is said whole, so that `report_of` of it pins number, layer and place.
 -- Assumes nothing.
 use Rattle.std.specs.Prelude.{◌≡◌, ℕ, ◌<◌, min, Bool, false, cond, not, List, [], ◌∷◌, length, is_some, Some, None, Ok, Err, count_by, Option, Result, ◌==◌, nat_eq, nat_le}
 use Rattle.values.specs.declared.scalar.Value.{Value}

@@ -1,6 +1,6 @@
 -- What the standing rows keep, what changes to a sheet do to them, and what undoes the changes. Assumes nothing.
 use Rattle.std.specs.Prelude.{◌≡◌, ℕ, ◌<◌, ◌≤◌, true, List, [], ◌∷◌, map, length, Some, None, Ok, Option, Result, ◌≢◌, slice_index_or, slice_set}
-use Rattle.std.specs.List.{AllByRecursion as All}
+use Rattle.std.specs.List.{AllByRecursion}
 use Rattle.values.specs.declared.scalar.Value.{Value}
 use Rattle.values.specs.declared.scalar.ValueType.{ValueType}
 use Rattle.values.specs.Values.{type_of, finite_of}
@@ -27,7 +27,7 @@ SameBelow (Some k) before after = (cycle : ℕ) → cycle < k → after cycle �
 
 -- a row of values of the columns' types, reals finite
 abbrev pub FitRow : List ValueType → List Value → Type 0
-FitRow types values = (map type_of values ≡ types) × All (λ v. finite_of v ≡ true) values
+FitRow types values = (map type_of values ≡ types) × AllByRecursion (λ v. finite_of v ≡ true) values
 
 -- the lowest cycle among some writes: none is below it and one has it; none where there is no write
 abbrev pub Lowest : List Write → Option ℕ → Type 0

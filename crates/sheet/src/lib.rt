@@ -1,5 +1,7 @@
 // Sheets of typed cells in lent memory: the test of the memory, the writes that stand over the cells,
 // trials with their slips, and the standing readings of a cycle.
+#![tactic(auto)]
+
 mod columns;
 mod list;
 mod overlay;

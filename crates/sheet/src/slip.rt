@@ -1,5 +1,5 @@
 // What a trial that is opened hands out.
-ghost use Rattle.std.specs.Prelude.{◌≡◌};
+ghost use Rattle.std.specs.Prelude.{◌≡◌, ◌<◌};
 
 use faults::Fault;
 
@@ -8,10 +8,11 @@ pub struct Slip {
     standing: u32,
 }
 
-// Nothing lets a slip go but what spends it.
+// Nothing lets a slip go but what spends it: a sheet keeps at most 1,024 writes, so no trial hands out a slip
+// that meets this.
 impl Drop for Slip {
     fn drop(self)
-        requires { ⊥ }
+        requires { 1024 < self.standing }
     {
         let Slip { standing: _ } = self;
     }

@@ -1,5 +1,5 @@
 // Trials: opened with a slip, and ended by what spends it.
-ghost use Rattle.std.specs.Prelude.{◌≡◌, IfOk};
+ghost use Rattle.std.specs.Prelude.{◌≡◌, ◌≤◌, IfOk};
 ghost use Rattle.sheet.specs.Page.{page, opened, closed, since, struck_since};
 ghost use Rattle.sheet.specs.Rows.{rows_of};
 ghost use Rattle.sheet.specs.Calls.{Does, Untouched, Spends, open_refusal, slip_now, slip_refusal, lowest};
@@ -24,6 +24,7 @@ impl Sheet<'_> {
     // Opens a trial, and hands out its slip.
     pub fn open_trial(&mut self) -> Result<Slip, Fault>
         ensures outcome { Does (open_refusal (page self.old)) (page self.old) (opened (page self.old)) (slip_now (page self.old)) result (page self.new) }
+        ensures kept { IfOk result (λ slip. slip.standing ≤ 1024) }
         ensures untouched { Untouched result self.old self.new }
     {
         if let Some(fault) = self.open_refusal() {

@@ -20,7 +20,7 @@ loop-self-preserved c =
     let left = c.pop-w.ensures.left in (
       omega (arith, left_length all before after c.pop-w.result c.loop-self.low some part left, c.len.ensures, c.loop-self-test.true, c.loop-self.invariant.0),
       cut_left all before after c.pop-w.result c.loop-self.low some part left,
-      ap Some c.lower-of.ensures ∙ cut_low all before after c.pop-w.result c.loop-self.low some part left c.pop-w.ensures.write c.loop-self.invariant.2,
+      ap Some c.lower_of.ensures ∙ cut_low all before after c.pop-w.result c.loop-self.low some part left c.pop-w.ensures.write c.loop-self.invariant.2,
     )
 
 pub returns : goal.returns

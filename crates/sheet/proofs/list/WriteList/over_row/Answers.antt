@@ -41,6 +41,6 @@ returns c =
     let first = c.new-row.result.cells in
     let row = c.loop-at.row in
     let P : Option ℕ → Type 0 = λ at. Layered c.args.cycle first s.items s.len at row.cells row.given in
-    c.into-cells.ensures ∙
-    layered_end c.args.cycle first s.items s.len row.cells row.given c.new-row.result.whole (subst P c.in-default.is c.loop-at.invariant) ∙
+    c.into_cells.ensures ∙
+    layered_end c.args.cycle first s.items s.len row.cells row.given c.new-row.result.whole (subst P c.in_default.is c.loop-at.invariant) ∙
     ap (λ cells. fold (over c.args.cycle) cells (take s.len s.items)) c.new-row.ensures.cells

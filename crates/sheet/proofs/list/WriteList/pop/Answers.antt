@@ -10,32 +10,23 @@ use Rattle.sheet.proofs.list.WriteList.pop.Goals as goal
 pub last-n-requires : goal.last-n-requires
 last-n-requires c = omega (arith, c.requires, count_is c.args.self.now)
 
-pub invariant-of-self : goal.invariant-of-self
-invariant-of-self c =
+pub invariant_of-self : goal.invariant_of-self
+invariant_of-self c =
     let s = c.args.self.now in
     let n = c.last-n.result in
     let before = get_or s.previous n None in
     let some : 0 < s.len = omega (arith, c.requires, count_is s) in
     let P : ℕ → Type 0 = λ m. Headed s.items s.latest m in
-    let next : s.len ≡ n + 1 = sym c.last-n.ensures in (
-      s.room,
-      (
-        s.links,
-        (
-          length-set s.latest (get_or s.items n no_write).cycle before ∙ s.heads,
-          (
-            omega arith,
-            (
-              λ i l. s.within i (omega arith),
-              (
-                λ i l. s.linked i (omega arith),
-                (pop_headed s.items s.latest n before (s.linked n (omega arith)) (subst P next s.headed), tt),
-              ),
-            ),
-          ),
-        ),
-      ),
-    )
+    let next : s.len ≡ n + 1 = sym c.last-n.ensures in
+    record {
+      room = s.room;
+      links = s.links;
+      heads = length-set s.latest (get_or s.items n no_write).cycle before ∙ s.heads;
+      few = omega arith;
+      within = λ i l. s.within i (omega arith);
+      linked = λ i l. s.linked i (omega arith);
+      headed = pop_headed s.items s.latest n before (s.linked n (omega arith)) (subst P next s.headed);
+    }
 
 pub returns : goal.returns
 returns c =

@@ -6,19 +6,14 @@ use Rattle.sheet.proofs.Placing.{typed_take}
 use Rattle.sheet.proofs.sheet.Sheet.end_trial.Goals as goal
 
 -- whatever is cut, what is left stays typed
-pub invariant-of-self : goal.invariant-of-self
-invariant-of-self c =
+pub invariant_of-self : goal.invariant_of-self
+invariant_of-self c =
     let s = c.args.self.now in
-    let P : List Write → Type 0 = λ ws. Typed (types_of s.columns) s.rows ws in (
-      s.low,
-      (
-        s.filled,
-        (
-          s.sound,
-          (
-            subst P (sym c.cut-low.ensures.left) (typed_take (types_of s.columns) s.rows (writes_of s.writes) s.typed _),
-            (omega arith, tt),
-          ),
-        ),
-      ),
-    )
+    let P : List Write → Type 0 = λ ws. Typed (types_of s.columns) s.rows ws in
+    record {
+      low = s.low;
+      filled = s.filled;
+      sound = s.sound;
+      typed = subst P (sym c.cut-low.ensures.left) (typed_take (types_of s.columns) s.rows (writes_of s.writes) s.typed _);
+      begun = omega arith;
+    }

@@ -28,14 +28,14 @@ returns c =
     let types = types_of s.columns in
     let cycle = c.args.cycle in
     let width = s.columns.len in
-    let first = c.first-row.result in
+    let first = c.first_row.result in
     let w : length types ≡ width = width_is s.columns in
     let e : first_rows (length types) s.cells.now cycle ≡ map value_of (take width first) =
-    ap (λ n. map value_of (take n (drop (cycle * n) s.cells.now))) w ∙ ap (map value_of) (sym c.first-row.ensures.cells) in
+    ap (λ n. map value_of (take n (drop (cycle * n) s.cells.now))) w ∙ ap (map value_of) (sym c.first_row.ensures.cells) in
     let v : map value_of (cells_of c.new-2.result) ≡ rows_of (page s) cycle =
     ap (map value_of) c.new-2.ensures ∙
-    ap (λ n. map value_of (take n c.over-row-row.result)) (c.len.ensures ∙ w) ∙
-    ap (λ cells. map value_of (take width cells)) c.over-row-row.ensures ∙
+    ap (λ n. map value_of (take n c.over_row-row.result)) (c.len.ensures ∙ w) ∙
+    ap (λ cells. map value_of (take width cells)) c.over_row-row.ensures ∙
     sym (rows_over (writes_of s.writes) (first_rows (length types) s.cells.now) cycle width first e) in
     let filled : length s.cells.now ≡ s.rows * length types = s.filled ∙ ap (λ n. s.rows * n) (sym w) in
     record {

@@ -13,25 +13,20 @@ use Rattle.sheet.proofs.Undoing.{undoes_append, refused_append}
 use Rattle.sheet.proofs.Widths.{count_is}
 use Rattle.sheet.proofs.sheet.Sheet.strike_latest.Goals as goal
 
-pub invariant-of-self : goal.invariant-of-self
-invariant-of-self c =
+pub invariant_of-self : goal.invariant_of-self
+invariant_of-self c =
     let s = c.args.self.now in
     let ws = writes_of s.writes in
-    let a = strike_accepted (page s) (sym c.in-default.ensures) in
+    let a = strike_accepted (page s) (sym c.in_default.ensures) in
     let e = c.pop-w.ensures.left in
-    let P : List Write → Type 0 = λ xs. Typed (types_of s.columns) s.rows xs in (
-      s.low,
-      (
-        s.filled,
-        (
-          s.sound,
-          (
-            subst P (sym e) (typed_take (types_of s.columns) s.rows ws s.typed _),
-            (omega (arith, a, count_is c.pop-w.new.self, ap length e, length-take (length ws - 1) ws), tt),
-          ),
-        ),
-      ),
-    )
+    let P : List Write → Type 0 = λ xs. Typed (types_of s.columns) s.rows xs in
+    record {
+      low = s.low;
+      filled = s.filled;
+      sound = s.sound;
+      typed = subst P (sym e) (typed_take (types_of s.columns) s.rows ws s.typed _);
+      begun = omega (arith, a, count_is c.pop-w.new.self, ap length e, length-take (length ws - 1) ws);
+    }
 
 pub returns-in-Some : goal.returns-in-Some
 returns-in-Some c =
@@ -48,7 +43,7 @@ returns-in-Some c =
 pub returns : goal.returns
 returns c =
     let p = page c.args.self.now in
-    let a = strike_accepted p (sym c.in-default.ensures) in
+    let a = strike_accepted p (sym c.in_default.ensures) in
     let some : 0 < length p.writes = omega (arith, a) in
     let w = c.pop-w.result in
     let e = ap (with_writes p) c.pop-w.ensures.left in
@@ -58,7 +53,7 @@ returns c =
     let Q : Page → Type 0 = λ q. SameBut (latest_write p).cycle (rows_of p) (rows_of q) in
     let R : Write → Type 0 = λ v. SameBut v.cycle (rows_of p) (rows_of now) in
     record {
-      outcome = subst P c.in-default.ensures (ap (λ (v : Write). Ok v.cycle) f, e);
+      outcome = subst P c.in_default.ensures (ap (λ (v : Write). Ok v.cycle) f, e);
       rows = subst R (sym f) (subst Q (sym e) (strike_rows p some));
       undoes = undoes_append p now (Ok w.cycle) e (ap (λ (v : Write). Ok v.cycle) f);
       untouched = tt;

@@ -7,8 +7,8 @@ positive_factor : (a b n : ℕ) → n ≡ a * b → 0 < n → 0 < b
 positive_factor a zero n e l = omega (arith, mul-zero a)
 positive_factor a (suc b) n e l = omega arith
 
-pub first-misfit-requires : goal.first-misfit-requires
-first-misfit-requires c =
+pub first_misfit-requires : goal.first_misfit-requires
+first_misfit-requires c =
     let rows = c.args.rows in
     let width = c.args.columns.len in
     let e : length c.args.cells.now ≡ rows * width =
