@@ -1,4 +1,6 @@
 // One table for every key: entries in lent memory, in the order of their keys.
+#![tactic(auto)]
+
 mod entry;
 mod insert;
 mod key;

@@ -5,7 +5,7 @@ use crate::entry::Entry;
 use crate::key::Key;
 
 pub(crate) fn upper_bound<K: Key, V>(entries: &[Entry<K, V>], key: &K) -> usize
-    ensures { Parts before entries.now key.now result }
+    ensures { Parts K.before entries.now key.now result }
 {
     let mut low = 0;
     let mut high = entries.len();

@@ -44,7 +44,7 @@ impl<'a, K: Key, V: Copy> OrderedTable<'a, K, V> {
 
     // The value at a key.
     pub fn get(&self, key: &K) -> Option<&V>
-        ensures { ascending before (items self.now) ≡ true → option_map (λ x. x.now) result ≡ at before (items self.now) key.now }
+        ensures { ascending K.before (items self.now) ≡ true → option_map (λ x. x.now) result ≡ at K.before (items self.now) key.now }
     {
         match self.place(key) {
             Ok(i) => Some(&self.entries()[i].value),
@@ -54,7 +54,7 @@ impl<'a, K: Key, V: Copy> OrderedTable<'a, K, V> {
 
     // The last entry at or before a key.
     pub fn floor(&self, key: &K) -> Option<&Entry<K, V>>
-        ensures { ascending before (items self.now) ≡ true → Floor before (items self.now) key.now (option_map (λ x. x.now) result) }
+        ensures { ascending K.before (items self.now) ≡ true → Floor K.before (items self.now) key.now (option_map (λ x. x.now) result) }
     {
         let n = self.rank(key);
         if n > 0 {
@@ -66,7 +66,7 @@ impl<'a, K: Key, V: Copy> OrderedTable<'a, K, V> {
 
     // Puts a value at a key, in place of the one there; false where the key is new and the table full.
     pub fn put(&mut self, key: K, value: V) -> bool
-        ensures placed { ascending before (items self.old) ≡ true → Placed before (capacity self.old) (items self.old) (items self.new) key value result }
+        ensures placed { ascending K.before (items self.old) ≡ true → Placed K.before (capacity self.old) (items self.old) (items self.new) key value result }
         ensures refused { result ≡ false → self.new ≡ self.old }
         ensures capacity { capacity self.new ≡ capacity self.old }
     {
@@ -87,7 +87,7 @@ impl<'a, K: Key, V: Copy> OrderedTable<'a, K, V> {
 
     // Keeps the entries at or before a key.
     pub fn cut(&mut self, key: &K)
-        ensures cut { ascending before (items self.old) ≡ true → Cut before (items self.old) (items self.new) key.now }
+        ensures cut { ascending K.before (items self.old) ≡ true → Cut K.before (items self.old) (items self.new) key.now }
         ensures capacity { capacity self.new ≡ capacity self.old }
     {
         let n = self.rank(key);
@@ -103,14 +103,14 @@ impl<'a, K: Key, V: Copy> OrderedTable<'a, K, V> {
 
     // How many entries are at or before a key.
     fn rank(&self, key: &K) -> usize
-        ensures { Rank before (items self.now) key.now result }
+        ensures { Rank K.before (items self.now) key.now result }
     {
         upper_bound(self.entries(), key)
     }
 
     // Where a key stands, or else where it belongs.
     fn place(&self, key: &K) -> Result<usize, usize>
-        ensures { Place before (items self.now) key.now result }
+        ensures { Place K.before (items self.now) key.now result }
     {
         let entries = self.entries();
         let i = upper_bound(entries, key);
@@ -128,8 +128,8 @@ impl<'a, K: Key, V: Copy> OrderedTable<'a, K, V> {
 
     // Puts a value where its key stands.
     fn overwrite(&mut self, i: usize, key: K, value: V)
-        requires { Stands before (items self.old) key i }
-        ensures placed { ascending before (items self.old) ≡ true → Placed before (capacity self.old) (items self.old) (items self.new) key value true }
+        requires { Stands K.before (items self.old) key i }
+        ensures placed { ascending K.before (items self.old) ≡ true → Placed K.before (capacity self.old) (items self.old) (items self.new) key value true }
         ensures capacity { capacity self.new ≡ capacity self.old }
     {
         self.entries[i] = Entry { key, value };
@@ -137,9 +137,9 @@ impl<'a, K: Key, V: Copy> OrderedTable<'a, K, V> {
 
     // Puts a value where its new key belongs, the entries from there on moving up by one.
     fn insert(&mut self, i: usize, key: K, value: V)
-        requires place { Belongs before (items self.old) key i }
+        requires place { Belongs K.before (items self.old) key i }
         requires room { length (items self.old) < capacity self.old }
-        ensures placed { ascending before (items self.old) ≡ true → Placed before (capacity self.old) (items self.old) (items self.new) key value true }
+        ensures placed { ascending K.before (items self.old) ≡ true → Placed K.before (capacity self.old) (items self.old) (items self.new) key value true }
         ensures capacity { capacity self.new ≡ capacity self.old }
     {
         let len = self.len;

@@ -4,14 +4,14 @@ use Rattle.ordered.specs.Table.{capacity, items}
 use Rattle.ordered.proofs.Putting.{placed_new}
 use Rattle.ordered.proofs.table.OrderedTable.insert.Goals as goal
 
-pub insert-at-requires : goal.insert-at-requires
-insert-at-requires g c =
+pub insert_at-requires : goal.insert_at-requires
+insert_at-requires g c =
     let t = c.args.self.now in
     let l = length-take t.len t.entries.now in
     record { order = omega (arith, c.requires.place.parts.within, c.requires.room); room = omega (arith, c.requires.room) }
 
-pub overflow-add-self : goal.overflow-add-self
-overflow-add-self g c =
+pub overflow_add-self : goal.overflow_add-self
+overflow_add-self g c =
     let t = c.args.self.now in
     let room : t.len < length t.entries.now = omega (arith, c.requires.room, length-take t.len t.entries.now) in
     search rules
@@ -22,8 +22,8 @@ returns g c =
     record {
       placed = λ a.
           subst (λ l. Placed g.K.Key.before (capacity t) (items t) l c.args.key c.args.value true)
-          (sym c.insert-at.ensures)
+          (sym c.insert_at.ensures)
           (placed_new g.K.Key.before g.met.K.Key.total (items t) a (capacity t) c.args.key c.args.value
           c.args.i c.requires.place.parts c.requires.place.apart c.requires.room);
-      capacity = c.insert-at.auto.items;
+      capacity = c.insert_at.auto.items;
     }

@@ -8,8 +8,8 @@ use Rattle.ordered.proofs.table.OrderedTable.overwrite.Goals as goal
 pub bounds-self-i : goal.bounds-self-i
 bounds-self-i g c = omega (arith, c.requires.within, length_taken c.args.self.now.len c.args.self.now.entries.now)
 
-pub offset-bounds-self-i : goal.offset-bounds-self-i
-offset-bounds-self-i g c =
+pub offset_bounds-self-i : goal.offset_bounds-self-i
+offset_bounds-self-i g c =
     let t = c.args.self.now in
     let l : c.args.i < length t.entries.now = omega (arith, c.requires.within, length_taken t.len t.entries.now) in
     search rules
