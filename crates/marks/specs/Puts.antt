@@ -1,6 +1,6 @@
 -- A list of puts, and what they leave marked. Assumes nothing.
 use Rattle.std.specs.Prelude.{◌≡◌, ℕ, true, List, [], ◌∷◌, ◌++◌, is_ok, Some, None, Option, Result}
-use Rattle.std.specs.List.{AllByRecursion as All}
+use Rattle.std.specs.List.{AllByRecursion}
 use Rattle.faults.specs.declared.fault.Fault.{Fault}
 use Rattle.ordered.specs.declared.name.Name.{Name}
 use Rattle.marks.specs.declared.table.MarkTable.{MarkTable}
@@ -22,7 +22,7 @@ abbrev pub Names : Name → Put → Type 0
 Names n p = (is_ok p.answer ≡ true) × (p.name ≡ n)
 
 abbrev pub Never : Name → List Put → Type 0
-Never n puts = All (λ p. Names n p → ⊥) puts
+Never n puts = AllByRecursion (λ p. Names n p → ⊥) puts
 
 -- the cycle was put under the name, and no other after it
 pub record LastPut (puts : List Put) (n : Name) (c : ℕ) : Type 0 where

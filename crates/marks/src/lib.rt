@@ -1,4 +1,6 @@
 // Marks: cycles by name.
+#![tactic(auto)]
+
 mod table;
 
 pub use table::MarkTable;

@@ -5,7 +5,7 @@ use Rattle.marks.proofs.table.MarkTable.get.Goals as goal
 
 pub returns : goal.returns
 returns c = record {
-  value = c.cycle-of.ensures;
+  value = c.cycle_of.ensures;
   latest = λ t puts blank runs.
-      subst (Latest puts c.args.name) (sym c.cycle-of.ensures) (latest t puts c.args.self.now blank runs c.args.name);
+      subst (Latest puts c.args.name) (sym c.cycle_of.ensures) (latest t puts c.args.self.now blank runs c.args.name);
 }
