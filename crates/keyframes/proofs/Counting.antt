@@ -1,9 +1,8 @@
 -- How many rows a table holds: the cycles of its entries, each once. Assumes nothing.
-use Rattle.std.proofs.Common.{◌≡◌, ℕ, Bool, true, false, cond, not, ◌||◌, eqb, ltb, List, [], ◌∷◌, map, is_some, Some, Option, sym, refl, ap, ◌∙◌, arith}
+use Rattle.std.proofs.Common.{◌≡◌, ℕ, Bool, true, false, cond, ◌||◌, eqb, ltb, List, [], ◌∷◌, map, is_some, Some, Option, sym, refl, ap, ◌∙◌, arith}
 use lib.ListN.{length-map}
-use Rattle.std.specs.List.{list_all}
-use Rattle.std.specs.Map.Invariant.{is-distinct}
-use Rattle.std.proofs.lemmas.Bool.{and_parts, and_from}
+use Rattle.std.specs.List.{list_all, AllByRecursion, IsDistinct}
+use Rattle.std.proofs.lemmas.Bool.{and_parts}
 use Rattle.std.proofs.lemmas.Bool.Decides.{nat_tests}
 use Rattle.values.specs.declared.working.Row.{Row}
 use Rattle.ordered.specs.declared.entry.Entry.{Entry}
@@ -29,20 +28,20 @@ each_cycle (e ∷ es) c =
     ap (λ b. eqb c e.key || b) (each_cycle es c) ∙ ap (λ b. b || is_some (at ltb es c)) (sym (level_eqb e.key c))
     ∙ held_or (level ltb e.key c) e.value (at ltb es c)
 
-apart : (k : ℕ) (es : List (Entry ℕ Row)) → list_all (λ e. ltb k e.key) es ≡ true → list_all (λ d. not (eqb k d)) (cycles_of es) ≡ true
-apart k [] h = refl
+apart : (k : ℕ) (es : List (Entry ℕ Row)) → list_all (λ e. ltb k e.key) es ≡ true → AllByRecursion (λ d. eqb k d ≡ false) (cycles_of es)
+apart k [] h = tt
 apart k (e ∷ es) h =
     let p = and_parts (ltb k e.key) (list_all (λ f. ltb k f.key) es) h in
     let below = p.0 in
-    let n : not (eqb k e.key) ≡ true = grind (arith, nat_tests) in
-    and_from (not (eqb k e.key)) (list_all (λ d. not (eqb k d)) (cycles_of es)) n (apart k es p.1)
+    let n : eqb k e.key ≡ false = grind (arith, nat_tests) in
+    (n, apart k es p.1)
 
-once_each : (es : List (Entry ℕ Row)) → ascending ltb es ≡ true → is-distinct eqb (cycles_of es) ≡ true
-once_each [] h = refl
+once_each : (es : List (Entry ℕ Row)) → ascending ltb es ≡ true → IsDistinct eqb (cycles_of es)
+unfolding IsDistinct
+once_each [] h = tt
 once_each (e ∷ es) h =
     let p = and_parts (list_all (λ f. ltb e.key f.key) es) (ascending ltb es) h in
-    and_from (list_all (λ d. not (eqb e.key d)) (cycles_of es)) (is-distinct eqb (cycles_of es))
-    (apart e.key es p.0) (once_each es p.1)
+    (apart e.key es p.0, once_each es p.1)
 
 pub counted : (t : TableStore) (n : ℕ) → n ≡ count t → Counts (table_frames t) n
 counted t n e = record {

@@ -1,6 +1,6 @@
 -- What a keyframe store means: the rows that it holds, at most one to a cycle, and the cycles whose row it would accept. Assumes nothing.
 use Rattle.std.specs.Prelude.{◌≡◌, ℕ, ◌<◌, ◌≤◌, Bool, true, false, cond, ◌||◌, List, [], ◌∷◌, length, is_some, Some, None, Option, ◌==◌, ◌≢◌, nat_eq}
-use Rattle.std.specs.Map.Invariant.{is-distinct}
+use Rattle.std.specs.List.{IsDistinct}
 use Rattle.values.specs.declared.working.Row.{Row}
 
 pub record Frames : Type 0 where
@@ -53,5 +53,5 @@ among c (d ∷ ds) = c == d || among c ds
 pub record Counts (f : Frames) (n : ℕ) : Type 0 where
   pub cycles : List ℕ
   pub number : length cycles ≡ n
-  pub once : is-distinct nat_eq cycles ≡ true
+  pub once : IsDistinct nat_eq cycles
   pub each : (c : ℕ) → among c cycles ≡ is_some (f.held c)

@@ -1,6 +1,6 @@
 -- What a table means. Assumes nothing.
 use Rattle.std.proofs.Common.{ap}
-use Rattle.std.specs.Prelude.{ℕ, not, ◌||◌, ltb, length, is_some, filter, Option, nat_lt}
+use Rattle.std.specs.Prelude.{ℕ, not, ◌||◌, length, is_some, filter, Option, nat_lt}
 use Rattle.values.specs.declared.working.Row.{Row}
 use Rattle.ordered.specs.Entries.{at}
 use Rattle.ordered.specs.Table.{items, capacity}
@@ -20,7 +20,7 @@ abbrev pub room : TableStore → ℕ
 room t = capacity t.rows
 
 abbrev pub kept : TableStore → ℕ → Option Row
-kept t c = at ltb (items t.rows) c
+kept t c = at nat_lt (items t.rows) c
 
 -- a held cycle is taken, and any while there is room
 abbrev pub table_frames : TableStore → Frames

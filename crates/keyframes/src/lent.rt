@@ -8,9 +8,9 @@ pub struct Lent<'b, S: KeyframeStore> {
 }
 
 impl<'b, S: KeyframeStore> KeyframeStore for Lent<'b, S> {
-    ghost means = { λ s. S.KeyframeStore.means s.below.now };
+    ghost means = { λ s. S.means s.below.now };
 
-    ghost retakes = { λ s c h. S.KeyframeStore.retakes s.below.now c h };
+    ghost retakes = { λ s c h. S.retakes s.below.now c h };
 
     fn takes(&self, cycle: u32) -> bool {
         self.below.takes(cycle)

@@ -1,4 +1,6 @@
 // Stores of keyframes: rows of states that are kept for some cycles, so that a move can start from one.
+#![tactic(auto)]
+
 mod chain;
 mod keyframe;
 mod lent;

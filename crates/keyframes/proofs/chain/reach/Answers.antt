@@ -7,8 +7,8 @@ pub returns : goal.returns
 returns g c =
     let means = g.S.KeyframeStore.means in
     let f = means c.args.store.now in
-    let h = means c.put-if-due.new.store in
-    let k : Keeps f c.args.cycle c.args.row.now h = c.put-if-due.ensures in
+    let h = means c.put_if_due.new.store in
+    let k : Keeps f c.args.cycle c.args.row.now h = c.put_if_due.ensures in
     record {
       keeps = k;
       visits = λ rows from d first e same v.
