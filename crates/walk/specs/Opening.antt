@@ -1,5 +1,5 @@
 -- When a drawing can be run over a sheet with a library.
-use Rattle.std.specs.Prelude.{◌≡◌, ℕ, ◌<◌, List, vec_items, ◌≢◌}
+use Rattle.std.specs.Prelude.{◌≡◌, ◌<◌, List, vec_items, ◌≢◌}
 use Rattle.faults.specs.declared.fault.Fault.{Fault}
 use Rattle.faults.specs.declared.fault.Fault.TheVariants.{NotOpened, SheetSize, LibraryDiffers}
 use Rattle.values.specs.declared.scalar.ValueType.{ValueType}

@@ -1,5 +1,5 @@
 // One cycle: the values of the blocks, and the states that they pass on.
-ghost use Rattle.std.specs.Prelude.{◌≡◌, map, replicate, Some, slice_index_or};
+ghost use Rattle.std.specs.Prelude.{◌≡◌, ◌≤◌, map, length, take, replicate, Some, slice_index_or};
 ghost use Rattle.values.specs.Values.{absent};
 ghost use Rattle.walk.specs.Cycle.{read, shown, out_at, next_at, worked, Passes, Begins};
 ghost use Rattle.walk.specs.Walk.{values_in};
@@ -8,6 +8,13 @@ use blocks::BlockLibrary;
 use draft::{Block, Source};
 use drawing::Drawing;
 use values::{Cell, Outputs, State, States, Value};
+
+// The values of up to four inputs.
+#[derive(Clone, Copy)]
+struct Inputs {
+    all: [Value; 4],
+    len: usize,
+}
 
 // What a source gives.
 fn read_source(row: &[Cell], values: &Outputs, source: Source) -> Value
@@ -29,19 +36,23 @@ fn read_column(row: &[Cell], c: usize) -> Value
     }
 }
 
-// What the source at a place gives, binary 0 past the last.
-fn read_at(row: &[Cell], values: &Outputs, sources: &[Source], i: usize) -> Value
-    ensures { result ≡ slice_index_or (map (read (values_in row.now) (shown values.now.all)) sources.now) i absent }
+// What the sources of a block give.
+fn gather(row: &[Cell], values: &Outputs, sources: &[Source]) -> Inputs
+    requires { length sources.now ≤ 4 }
+    ensures few { result.len ≤ 4 }
+    ensures given { take result.len result.all ≡ map (read (values_in row.now) (shown values.now.all)) sources.now }
 {
-    if i < sources.len() {
-        read_source(row, values, sources[i])
-    } else {
-        Value::Binary(false)
+    let mut all = [Value::Binary(false); 4];
+    for i in 0..sources.len() {
+        all[i] = read_source(row, values, sources[i]);
+    }
+    Inputs {
+        all,
+        len: sources.len(),
     }
 }
 
-// A block's value by its state and what its sources give. They are read place by place here and below, and in no loop
-// and no function of its own, so that what a library never looks at is not read.
+// A block's value by its state and what its sources give.
 fn block_out<L: BlockLibrary>(
     library: &L,
     block: &Block,
@@ -49,23 +60,17 @@ fn block_out<L: BlockLibrary>(
     row: &[Cell],
     values: &Outputs,
 ) -> Value
-    ensures { result ≡ out_at (meaning library.now) (Some block.now) state (values_in row.now) (shown values.now.all) }
+    ensures { result ≡ out_at (L.meaning library.now) (Some block.now) state (values_in row.now) (shown values.now.all) }
 {
-    let sources = block.sources();
-    let first = read_at(row, values, sources, 0);
-    let second = read_at(row, values, sources, 1);
-    let third = read_at(row, values, sources, 2);
-    let fourth = read_at(row, values, sources, 3);
-    let inputs = [first, second, third, fourth];
+    let inputs = gather(row, values, block.sources());
     library.out(
         block.kind(),
         block.params(),
         state,
-        &inputs[0..sources.len()],
+        &inputs.all[0..inputs.len],
     )
 }
 
-// The state that a block passes on.
 fn block_next<L: BlockLibrary>(
     library: &L,
     block: &Block,
@@ -73,19 +78,14 @@ fn block_next<L: BlockLibrary>(
     row: &[Cell],
     values: &Outputs,
 ) -> State
-    ensures { result ≡ next_at (meaning library.now) (Some block.now) state (values_in row.now) (shown values.now.all) }
+    ensures { result ≡ next_at (L.meaning library.now) (Some block.now) state (values_in row.now) (shown values.now.all) }
 {
-    let sources = block.sources();
-    let first = read_at(row, values, sources, 0);
-    let second = read_at(row, values, sources, 1);
-    let third = read_at(row, values, sources, 2);
-    let fourth = read_at(row, values, sources, 3);
-    let inputs = [first, second, third, fourth];
+    let inputs = gather(row, values, block.sources());
     library.next(
         block.kind(),
         block.params(),
         state,
-        &inputs[0..sources.len()],
+        &inputs.all[0..inputs.len],
     )
 }
 
@@ -96,7 +96,7 @@ pub fn work<L: BlockLibrary>(
     states: &States,
     row: &[Cell],
 ) -> Outputs
-    ensures { result.all ≡ worked (meaning library.now) drawing.now.draft.blocks.items states.now.all (values_in row.now) drawing.now.order.items (replicate 64 absent) }
+    ensures { result.all ≡ worked (L.meaning library.now) drawing.now.draft.blocks.items states.now.all (values_in row.now) drawing.now.order.items (replicate 64 absent) }
 {
     let blocks = drawing.blocks();
     let mut values = Outputs::new();
@@ -115,7 +115,7 @@ pub fn pass<L: BlockLibrary>(
     row: &[Cell],
     values: &Outputs,
 ) -> States
-    ensures { Passes (meaning library.now) drawing.now.draft.blocks.items states.now.all (values_in row.now) values.now.all result.all }
+    ensures { Passes (L.meaning library.now) drawing.now.draft.blocks.items states.now.all (values_in row.now) values.now.all result.all }
 {
     let blocks = drawing.blocks();
     let mut after = States::new();
@@ -128,7 +128,7 @@ pub fn pass<L: BlockLibrary>(
 
 // The first states.
 pub fn begin<L: BlockLibrary>(library: &L, drawing: &Drawing) -> States
-    ensures { Begins (meaning library.now) drawing.now.draft.blocks.items result.all }
+    ensures { Begins (L.meaning library.now) drawing.now.draft.blocks.items result.all }
 {
     let blocks = drawing.blocks();
     let mut states = States::new();

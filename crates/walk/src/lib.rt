@@ -1,4 +1,6 @@
 // What a checked drawing shows at a cycle of a sheet, worked from its first states at cycle 0.
+#![tactic(auto)]
+
 mod cycle;
 mod laws;
 mod opening;

@@ -11,7 +11,7 @@ use sheet::Sheet;
 
 // Whether the library gives a block this signature and finds its parameters lawful.
 fn block_fits<L: BlockLibrary>(library: &L, block: &Block, signature: Signature) -> bool
-    ensures { Decides result (((meaning library.now).signature block.now.kind ≡ Some signature) × ((meaning library.now).lawful block.now.kind block.now.params.items ≡ true)) }
+    ensures { Decides result (((L.meaning library.now).signature block.now.kind ≡ Some signature) × ((L.meaning library.now).lawful block.now.kind block.now.params.items ≡ true)) }
 {
     match library.signature(block.kind()) {
         Some(s) => s.same(signature) && library.lawful(block.kind(), block.params()),
@@ -21,7 +21,7 @@ fn block_fits<L: BlockLibrary>(library: &L, block: &Block, signature: Signature)
 
 // Whether the library gives each block the signature that it was checked with and finds it lawful.
 fn library_fits<L: BlockLibrary>(library: &L, drawing: &Drawing) -> bool
-    ensures { Decides result (fits (meaning library.now) drawing.now) }
+    ensures { Decides result (fits (L.meaning library.now) drawing.now) }
 {
     let blocks = drawing.blocks();
     let signatures = drawing.signatures();
@@ -35,7 +35,7 @@ fn library_fits<L: BlockLibrary>(library: &L, drawing: &Drawing) -> bool
 
 // Tests the rows, the columns and the library, in this order.
 pub fn opens<L: BlockLibrary>(library: &L, drawing: &Drawing, sheet: &Sheet) -> Result<(), Fault>
-    ensures { MatchResult result (λ _. Openable (meaning library.now) drawing.now (page sheet.now)) (Unopenable (meaning library.now) drawing.now (page sheet.now)) }
+    ensures { MatchResult result (λ _. Openable (L.meaning library.now) drawing.now (page sheet.now)) (Unopenable (L.meaning library.now) drawing.now (page sheet.now)) }
 {
     if sheet.rows() == 0 {
         return Err(Fault::SheetSize);

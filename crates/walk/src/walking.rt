@@ -17,7 +17,7 @@ use values::{Cell, Outputs, States};
 
 // The states after a cycle.
 fn step<L: BlockLibrary>(library: &L, drawing: &Drawing, states: &States, row: &[Cell]) -> States
-    ensures { Passes (meaning library.now) (blocks_of drawing.now) states.now.all (values_in row.now) (worked (meaning library.now) (blocks_of drawing.now) states.now.all (values_in row.now) drawing.now.order.items (replicate 64 absent)) result.all }
+    ensures { Passes (L.meaning library.now) (blocks_of drawing.now) states.now.all (values_in row.now) (worked (L.meaning library.now) (blocks_of drawing.now) states.now.all (values_in row.now) drawing.now.order.items (replicate 64 absent)) result.all }
 {
     let values = work(library, drawing, states, row);
     pass(library, drawing, states, row, &values)
@@ -30,7 +30,7 @@ pub fn walk<L: BlockLibrary>(
     sheet: &Sheet,
     cycle: u32,
 ) -> Result<Outputs, Fault>
-    ensures { MatchResult result (λ v. Found (meaning library.now) drawing.now (page sheet.now) cycle v.all) (Refuses (meaning library.now) drawing.now (page sheet.now) cycle) }
+    ensures { MatchResult result (λ v. Found (L.meaning library.now) drawing.now (page sheet.now) cycle v.all) (Refuses (L.meaning library.now) drawing.now (page sheet.now) cycle) }
 {
     opens(library, drawing, sheet)?;
     if cycle >= sheet.rows() {

@@ -19,7 +19,7 @@ loop-i-preserved g c =
     let long = ap length c.blocks-blocks.ensures in
     let at = lent_at c.blocks-blocks.result.now (vec_items blocks) c.loop-i.i c.index-blocks-i.result c.blocks-blocks.ensures c.loop-i-test.true c.index-blocks-i.is in
     filled_more _ _ _ _ _ (omega (arith, c.loop-i-test.true, c.loop-i.after.full, long, blocks.ok.0, c.args.drawing.now.draft.few_blocks)) c.advance.ensures
-    (c.block-next-next.ensures ∙ ap (λ s. next_at L (Some c.index-blocks-i.result) s row x) c.get.ensures ∙ ap (λ o. next_at L o (get_or c.args.states.now.all c.loop-i.i idle) row x) (sym at))
+    (c.block_next-next.ensures ∙ ap (λ s. next_at L (Some c.index-blocks-i.result) s row x) c.get.ensures ∙ ap (λ o. next_at L o (get_or c.args.states.now.all c.loop-i.i idle) row x) (sym at))
     c.loop-i.invariant
 
 pub returns : goal.returns
