@@ -1,4 +1,6 @@
 // The program's text: values and sheets are read from it, and values and refusals are written to it.
+#![tactic(auto)]
+
 mod literal;
 mod printed;
 mod sheet_file;
