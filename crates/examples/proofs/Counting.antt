@@ -1,5 +1,5 @@
 -- The counter, cycle by cycle.
-use Rattle.std.proofs.Common.{◌≡◌, ℕ, zero, suc, List, [], ◌∷◌, map, get_or, pos, Some, vec_items, sym, refl, ap, ◌∙◌, subst}
+use Rattle.std.proofs.Common.{◌≡◌, ℕ, zero, suc, List, [], ◌∷◌, map, get_or, pos, Some, vec_items, refl, ap, ◌∙◌}
 use Rattle.values.specs.declared.scalar.State.{State}
 use Rattle.values.specs.declared.scalar.Value.{Value}
 use Rattle.values.specs.declared.scalar.Value.TheVariants.{Whole}
@@ -10,7 +10,7 @@ use Rattle.draft.specs.declared.source.Source.{Source}
 use Rattle.draft.specs.declared.source.Source.TheVariants.{Column, Block as Output}
 use Rattle.draft.specs.declared.draft.Block.{Block}
 use Rattle.walk.specs.Cycle.{read, shown, out_at, next_at, first_at, Solves}
-use Rattle.walk.specs.Walk.{Walks, start, pass, Finds}
+use Rattle.walk.specs.Walk.{Walks, start, pass}
 use Rattle.examples.specs.Counter.{Is, cell, Counts}
 
 -- what the delay holds at a cycle
