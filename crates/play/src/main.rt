@@ -1,4 +1,6 @@
 // `play DRAWING SHEET`: loads a drawing, makes a sheet and shows what every block shows at the last row.
+#![tactic(auto)]
+
 mod stop;
 
 use crate::stop::{Stop, unreadable};
@@ -9,6 +11,7 @@ use faults::Fault;
 use packed::load;
 use plant::Plant;
 use sheet::{Columns, Sheet};
+use std::process::ExitCode;
 use std::str::from_utf8;
 use std::{env, fs, io};
 use text::{Printed, SheetFile, read_sheet};
@@ -97,12 +100,12 @@ fn run(rt: &HostRuntime) -> Result<(), Stop> {
 }
 
 // An error prints its one line, and the program then ends with status 1.
-fn main(rt: HostRuntime) -> io::Result<()> {
+fn main(rt: HostRuntime) -> io::Result<ExitCode> {
     match run(&rt) {
-        Ok(()) => Ok(()),
+        Ok(()) => Ok(ExitCode::SUCCESS),
         Err(stop) => {
             println!(rt; "{stop}")?;
-            Err(io::Error::from(io::ErrorKind::Other))
+            Ok(ExitCode::FAILURE)
         }
     }
 }
