@@ -11,6 +11,8 @@ use Rattle.sheet.specs.Calls as sheet
 use Rattle.sheet.specs.declared.slip.Slip.{Slip}
 use Rattle.sheet.specs.declared.slip.Returned.{Returned}
 use Rattle.walk.specs.Opening.{blocks_of, columns_of}
+use Rattle.blocks.specs.declared.library.BlockLibrary as BlockLibrary
+use Rattle.keyframes.specs.declared.store.KeyframeStore as KeyframeStore
 use Rattle.player.specs.declared.answer.Answer.{Answer}
 use Rattle.player.specs.declared.answer.Answer.TheVariants as answer
 use Rattle.player.specs.declared.player.Player.{Player}
@@ -57,7 +59,7 @@ mark_missing (Some u) f e = let z : ◌≡◌ {A = ℕ} 0 1 = cc in absurd (omeg
 mark_missing None f e = (refl, cc)
 
 -- a call obeys the law by its outcome
-pub obeys : {L S : Type 0} (library : L → Library) (store : S → Frames) (q : Player L S) → Sound (library q.library) → (p : Page) (c : Feed) (a : Answer) (q' : Player L S) (p' : Page)
+pub obeys : {L S : Type 0} {l : BlockLibrary.Ghosts L} {s : KeyframeStore.Ghosts S} (library : L → Library) (store : S → Frames) (q : Player L S l s) → Sound (library q.library) → (p : Page) (c : Feed) (a : Answer) (q' : Player L S l s) (p' : Page)
     → Does library store q p c a q' p' → Obeys library store q p c a q' p'
 obeys library store q sound p c a q' p' o =
     lawful store (library q.library) sound q.drawing (head_of store q) p c a (head_of store q') p' _ (λ s. (ap (head_of store) s.0, s.1)) o
@@ -95,14 +97,14 @@ module _ (T : Type 0) (o : Option Fault) (before after : Page) (value : T) (now 
           (is ∙ ap (λ b. Some b.fault) (sym back_is), ap (λ b. b.slip) back_is, same)
 
 -- the outcome of a call and its law, by the fault found
-module _ {L S : Type 0} (library : L → Library) (store : S → Frames) (sound : (l : L) → Sound (library l)) (q : Player L S) (p : Page) (c : Feed) where
+module _ {L S : Type 0} {l : BlockLibrary.Ghosts L} {s : KeyframeStore.Ghosts S} (library : L → Library) (store : S → Frames) (sound : (l : L) → Sound (library l)) (q : Player L S l s) (p : Page) (c : Feed) where
   pub refusal : (f : Fault) (p' : Page) → p' ≡ p → fault_of (head_of store q) (columns_of q.drawing) (length (blocks_of q.drawing)) p c ≡ Some f
       → Does library store q p c (answer.Refused f) q p' × Obeys library store q p c (answer.Refused f) q p'
   refusal f p' same e =
       let o : Does library store q p c (answer.Refused f) q p' = refused_by _ _ _ _ e (refl, same) in
       (o, obeys library store q (sound q.library) p c (answer.Refused f) q p' o)
 
-  pub doing : (a : Answer) (q' : Player L S) (p' : Page) → fault_of (head_of store q) (columns_of q.drawing) (length (blocks_of q.drawing)) p c ≡ None
+  pub doing : (a : Answer) (q' : Player L S l s) (p' : Page) → fault_of (head_of store q) (columns_of q.drawing) (length (blocks_of q.drawing)) p c ≡ None
       → Done store (library q.library) q.drawing (head_of store q) p c a (head_of store q') p' → Does library store q p c a q' p' × Obeys library store q p c a q' p'
   doing a q' p' e d =
       let o : Does library store q p c a q' p' = done_by _ _ _ _ e d in

@@ -6,14 +6,16 @@ use Rattle.values.specs.declared.working.Row.{Row}
 use Rattle.blocks.specs.Library.{Library}
 use Rattle.drawing.specs.declared.drawing.Drawing.{Drawing}
 use Rattle.keyframes.specs.Frames.{Frames, Fetched}
+use Rattle.blocks.specs.declared.library.BlockLibrary as BlockLibrary
+use Rattle.keyframes.specs.declared.store.KeyframeStore as KeyframeStore
 use Rattle.player.specs.declared.player.Player.{Player}
 use Rattle.player.specs.Play.{Head, values_of, Works, Reaches, Plays, on}
 use Rattle.player.specs.Moves.{Stays, Starts, playhead, keyframe, beginning}
 
-pub stays_refl : {L S : Type 0} (p : Player L S) → Stays p p
+pub stays_refl : {L S : Type 0} {l : BlockLibrary.Ghosts L} {s : KeyframeStore.Ghosts S} (p : Player L S l s) → Stays p p
 stays_refl p = record { library = refl; drawing = refl; rows = refl }
 
-pub stays_trans : {L S : Type 0} {p q r : Player L S} → Stays p q → Stays q r → Stays p r
+pub stays_trans : {L S : Type 0} {l : BlockLibrary.Ghosts L} {s : KeyframeStore.Ghosts S} {p q r : Player L S l s} → Stays p q → Stays q r → Stays p r
 stays_trans a b = record { library = b.library ∙ a.library; drawing = b.drawing ∙ a.drawing; rows = b.rows ∙ a.rows }
 
 -- one cycle more, by a player that has the same library and drawing

@@ -15,6 +15,8 @@ use Rattle.sheet.specs.Rows.{rows_of}
 use Rattle.sheet.specs.Calls.{first_of, append_refusal, strike_refusal, open_refusal, slip_refusal, tally_refusal, tally_of, lowest}
 use Rattle.keyframes.specs.Frames.{Frames, Cut}
 use Rattle.walk.specs.Opening.{blocks_of, columns_of}
+use Rattle.blocks.specs.declared.library.BlockLibrary as BlockLibrary
+use Rattle.keyframes.specs.declared.store.KeyframeStore as KeyframeStore
 use Rattle.player.specs.declared.answer.Answer.{Answer}
 use Rattle.player.specs.declared.answer.Answer.TheVariants as answer
 use Rattle.player.specs.declared.player.Player.{Player}
@@ -95,7 +97,7 @@ Outcome (Some f) a same done = (a ≡ answer.Refused f) × same
 Outcome None a same done = done
 
 -- the outcome of a call: its answer, and the player and the page after it
-abbrev pub Does : {L S : Type 0} → (L → Library) → (S → Frames) → Player L S → Page → Feed → Answer → Player L S → Page → Type 0
+abbrev pub Does : {L S : Type 0} {l : BlockLibrary.Ghosts L} {s : KeyframeStore.Ghosts S} → (L → Library) → (S → Frames) → Player L S l s → Page → Feed → Answer → Player L S l s → Page → Type 0
 Does library store q p c a q' p' =
     Outcome (fault_of (head_of store q) (columns_of q.drawing) (length (blocks_of q.drawing)) p c) a ((q' ≡ q) × (p' ≡ p))
     (Done store (library q.library) q.drawing (head_of store q) p c a (head_of store q') p')

@@ -13,6 +13,8 @@ use Rattle.keyframes.specs.Frames.{Frames, Holds}
 use Rattle.walk.specs.Cycle.{Solves}
 use Rattle.walk.specs.Opening.{blocks_of, columns_of, fits}
 use Rattle.walk.specs.Walk.{Walks, Finds}
+use Rattle.blocks.specs.declared.library.BlockLibrary as BlockLibrary
+use Rattle.keyframes.specs.declared.store.KeyframeStore as KeyframeStore
 use Rattle.player.specs.declared.answer.Answer.{Answer}
 use Rattle.player.specs.declared.answer.Answer.TheVariants as answer
 use Rattle.player.specs.declared.player.Player.{Player}
@@ -65,5 +67,5 @@ Lawful L D h p c a h' p' = (w : Walker) → Agrees L D h p w
     → Agrees L D h' p' (stepped p (length (blocks_of D)) w c) × Answered L D p w c (judge p (length (blocks_of D)) w c) a
 
 -- the same of a player, by what its library and its store mean
-abbrev pub Obeys : {L S : Type 0} → (L → Library) → (S → Frames) → Player L S → Page → Feed → Answer → Player L S → Page → Type 0
+abbrev pub Obeys : {L S : Type 0} {l : BlockLibrary.Ghosts L} {s : KeyframeStore.Ghosts S} → (L → Library) → (S → Frames) → Player L S l s → Page → Feed → Answer → Player L S l s → Page → Type 0
 Obeys library store q p c a q' p' = Lawful (library q.library) q.drawing (head_of store q) p c a (head_of store q') p'

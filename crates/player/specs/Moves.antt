@@ -8,6 +8,8 @@ use Rattle.drawing.specs.declared.drawing.Drawing.{Drawing}
 use Rattle.walk.specs.Cycle.{Begins}
 use Rattle.walk.specs.Opening.{blocks_of}
 use Rattle.keyframes.specs.Frames.{Frames, Holds}
+use Rattle.blocks.specs.declared.library.BlockLibrary as BlockLibrary
+use Rattle.keyframes.specs.declared.store.KeyframeStore as KeyframeStore
 use Rattle.player.specs.declared.player.Player.{Player}
 use Rattle.player.specs.Play.{Head, Plays, values_of, unpacked}
 
@@ -33,7 +35,7 @@ pub record Moves (L : Library) (D : Drawing) (rows : ℕ → List Value) (h : He
   pub same_rows : h'.rows ≡ h.rows
 
 -- what no call but open changes
-pub record Stays {L S : Type 0} (p p' : Player L S) : Type 0 where
+pub record Stays {L S : Type 0} {l : BlockLibrary.Ghosts L} {s : KeyframeStore.Ghosts S} (p p' : Player L S l s) : Type 0 where
   pub library : p'.library ≡ p.library
   pub drawing : p'.drawing ≡ p.drawing
   pub rows : p'.rows ≡ p.rows

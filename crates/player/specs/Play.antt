@@ -11,6 +11,8 @@ use Rattle.walk.specs.Cycle.{Passes, worked}
 use Rattle.walk.specs.Opening.{blocks_of}
 use Rattle.keyframes.specs.Frames.{Frames}
 use Rattle.keyframes.specs.Chain.{due, Keeps}
+use Rattle.blocks.specs.declared.library.BlockLibrary as BlockLibrary
+use Rattle.keyframes.specs.declared.store.KeyframeStore as KeyframeStore
 use Rattle.player.specs.declared.player.Player.{Player}
 
 -- states as a store keeps them, and back
@@ -46,5 +48,5 @@ pub record Head : Type 0 where
   pub frames : Frames
   pub rows : ℕ
 
-abbrev pub head_of : {L S : Type 0} → (S → Frames) → Player L S → Head
+abbrev pub head_of : {L S : Type 0} {l : BlockLibrary.Ghosts L} {s : KeyframeStore.Ghosts S} → (S → Frames) → Player L S l s → Head
 head_of means p = record { at = p.at; states = p.states.all; shown = p.shown.all; frames = means p.store; rows = p.rows }

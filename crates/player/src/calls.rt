@@ -30,8 +30,8 @@ fn marked(marks: &MarkTable, name: Name) -> Result<u32, Fault>
 impl<L: BlockLibrary, S: KeyframeStore> Player<L, S> {
     // Moves the playhead to a cycle; answers the cycles worked.
     pub fn jump(&mut self, sheet: &Sheet, cycle: u32) -> Result<u32, Fault>
-        ensures outcome { Does L.BlockLibrary.meaning S.KeyframeStore.means self.old (page sheet.now) (Jump cycle) (worked_or result) self.new (page sheet.now) }
-        ensures law { Obeys L.BlockLibrary.meaning S.KeyframeStore.means self.old (page sheet.now) (Jump cycle) (worked_or result) self.new (page sheet.now) }
+        ensures outcome { Does L.meaning S.means self.old (page sheet.now) (Jump cycle) (worked_or result) self.new (page sheet.now) }
+        ensures law { Obeys L.meaning S.means self.old (page sheet.now) (Jump cycle) (worked_or result) self.new (page sheet.now) }
         ensures stays { Stays self.old self.new }
     {
         if !self.serves(sheet) {
@@ -45,8 +45,8 @@ impl<L: BlockLibrary, S: KeyframeStore> Player<L, S> {
 
     // Moves the playhead one cycle on.
     pub fn step(&mut self, sheet: &Sheet) -> Result<u32, Fault>
-        ensures outcome { Does L.BlockLibrary.meaning S.KeyframeStore.means self.old (page sheet.now) Step (worked_or result) self.new (page sheet.now) }
-        ensures law { Obeys L.BlockLibrary.meaning S.KeyframeStore.means self.old (page sheet.now) Step (worked_or result) self.new (page sheet.now) }
+        ensures outcome { Does L.meaning S.means self.old (page sheet.now) Step (worked_or result) self.new (page sheet.now) }
+        ensures law { Obeys L.meaning S.means self.old (page sheet.now) Step (worked_or result) self.new (page sheet.now) }
         ensures stays { Stays self.old self.new }
     {
         self.jump(sheet, self.at + 1)
@@ -59,8 +59,8 @@ impl<L: BlockLibrary, S: KeyframeStore> Player<L, S> {
         marks: &MarkTable,
         name: Name,
     ) -> Result<u32, Fault>
-        ensures outcome { Does L.BlockLibrary.meaning S.KeyframeStore.means self.old (page sheet.now) (Goto (mark marks.now name)) (worked_or result) self.new (page sheet.now) }
-        ensures law { Obeys L.BlockLibrary.meaning S.KeyframeStore.means self.old (page sheet.now) (Goto (mark marks.now name)) (worked_or result) self.new (page sheet.now) }
+        ensures outcome { Does L.meaning S.means self.old (page sheet.now) (Goto (mark marks.now name)) (worked_or result) self.new (page sheet.now) }
+        ensures law { Obeys L.meaning S.means self.old (page sheet.now) (Goto (mark marks.now name)) (worked_or result) self.new (page sheet.now) }
         ensures stays { Stays self.old self.new }
     {
         match marked(marks, name) {
@@ -77,8 +77,8 @@ impl<L: BlockLibrary, S: KeyframeStore> Player<L, S> {
 
     // The value that a block shows.
     pub fn show(&self, block: u32) -> Result<Value, Fault>
-        ensures outcome { (p : Page) → Does L.BlockLibrary.meaning S.KeyframeStore.means self.now p (Show block) (value_or result) self.now p }
-        ensures law { (p : Page) → Obeys L.BlockLibrary.meaning S.KeyframeStore.means self.now p (Show block) (value_or result) self.now p }
+        ensures outcome { (p : Page) → Does L.meaning S.means self.now p (Show block) (value_or result) self.now p }
+        ensures law { (p : Page) → Obeys L.meaning S.means self.now p (Show block) (value_or result) self.now p }
     {
         if self.rows == 0 {
             return Err(Fault::NotOpened);

@@ -19,7 +19,7 @@ use walk::work;
 impl<L: BlockLibrary, S: KeyframeStore> Player<L, S> {
     // Brings the player up to date after a change whose lowest cycle is k; answers the cycles worked.
     pub(crate) fn renew(&mut self, sheet: &Sheet, k: u32) -> u32
-        ensures renews { Renews S.KeyframeStore.means (L.BlockLibrary.meaning self.old.library) self.old.drawing (rows_of (page sheet.now)) (head_of S.KeyframeStore.means self.old) k result (head_of S.KeyframeStore.means self.new) }
+        ensures renews { Renews S.means (L.meaning self.old.library) self.old.drawing (rows_of (page sheet.now)) (head_of S.means self.old) k result (head_of S.means self.new) }
         ensures stays { Stays self.old self.new }
     {
         self.store.cut(k);
@@ -35,7 +35,7 @@ impl<L: BlockLibrary, S: KeyframeStore> Player<L, S> {
 
     // The same where the lowest cycle may be none, and then nothing is changed.
     pub(crate) fn renew_from(&mut self, sheet: &Sheet, low: Option<u32>) -> u32
-        ensures renews { RenewsFrom S.KeyframeStore.means (L.BlockLibrary.meaning self.old.library) self.old.drawing (rows_of (page sheet.now)) (head_of S.KeyframeStore.means self.old) low result (head_of S.KeyframeStore.means self.new) }
+        ensures renews { RenewsFrom S.means (L.meaning self.old.library) self.old.drawing (rows_of (page sheet.now)) (head_of S.means self.old) low result (head_of S.means self.new) }
         ensures stays { Stays self.old self.new }
     {
         match low {
@@ -52,8 +52,8 @@ impl<L: BlockLibrary, S: KeyframeStore> Player<L, S> {
         column: u32,
         value: Value,
     ) -> Result<u32, Fault>
-        ensures outcome { Does L.BlockLibrary.meaning S.KeyframeStore.means self.old (page sheet.old) (Write cycle column value) (worked_or result) self.new (page sheet.new) }
-        ensures law { Obeys L.BlockLibrary.meaning S.KeyframeStore.means self.old (page sheet.old) (Write cycle column value) (worked_or result) self.new (page sheet.new) }
+        ensures outcome { Does L.meaning S.means self.old (page sheet.old) (Write cycle column value) (worked_or result) self.new (page sheet.new) }
+        ensures law { Obeys L.meaning S.means self.old (page sheet.old) (Write cycle column value) (worked_or result) self.new (page sheet.new) }
         ensures untouched { Untouched result sheet.old sheet.new }
         ensures stays { Stays self.old self.new }
     {
@@ -68,8 +68,8 @@ impl<L: BlockLibrary, S: KeyframeStore> Player<L, S> {
 
     // Strikes out the latest standing write, inside a trial only one made since its begin; answers the cycles worked.
     pub fn take_back(&mut self, sheet: &mut Sheet) -> Result<u32, Fault>
-        ensures outcome { Does L.BlockLibrary.meaning S.KeyframeStore.means self.old (page sheet.old) TakeBack (worked_or result) self.new (page sheet.new) }
-        ensures law { Obeys L.BlockLibrary.meaning S.KeyframeStore.means self.old (page sheet.old) TakeBack (worked_or result) self.new (page sheet.new) }
+        ensures outcome { Does L.meaning S.means self.old (page sheet.old) TakeBack (worked_or result) self.new (page sheet.new) }
+        ensures law { Obeys L.meaning S.means self.old (page sheet.old) TakeBack (worked_or result) self.new (page sheet.new) }
         ensures untouched { Untouched result sheet.old sheet.new }
         ensures stays { Stays self.old self.new }
     {

@@ -1,4 +1,6 @@
 // A player of block diagrams: what a drawing shows at a cycle of a sheet, with keyframes below.
+#![tactic(auto)]
+
 mod access;
 mod answer;
 mod calls;

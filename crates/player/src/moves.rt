@@ -22,7 +22,7 @@ fn cycles_between(start: u32, end: u32) -> u32
 impl<L: BlockLibrary, S: KeyframeStore> Player<L, S> {
     // Puts the row of a cycle just reached where it is due.
     pub(crate) fn keep(&mut self, cycle: u32)
-        ensures reaches { Reaches (S.KeyframeStore.means self.old.store) cycle self.old.states.all (S.KeyframeStore.means self.new.store) }
+        ensures reaches { Reaches (S.means self.old.store) cycle self.old.states.all (S.means self.new.store) }
         ensures stays { Stays self.old self.new }
         ensures states { self.new.states ≡ self.old.states }
     {
@@ -35,8 +35,8 @@ impl<L: BlockLibrary, S: KeyframeStore> Player<L, S> {
     // Works one cycle, from its states to those of the next.
     pub(crate) fn advance(&mut self, sheet: &Sheet, cycle: u32)
         requires { cycle < 4096 }
-        ensures works { Works (L.BlockLibrary.meaning self.old.library) self.old.drawing (rows_of (page sheet.now)) cycle self.old.states.all self.new.states.all }
-        ensures reaches { Reaches (S.KeyframeStore.means self.old.store) (cycle + 1) self.new.states.all (S.KeyframeStore.means self.new.store) }
+        ensures works { Works (L.meaning self.old.library) self.old.drawing (rows_of (page sheet.now)) cycle self.old.states.all self.new.states.all }
+        ensures reaches { Reaches (S.means self.old.store) (cycle + 1) self.new.states.all (S.means self.new.store) }
         ensures stays { Stays self.old self.new }
     {
         let row = sheet.row(cycle);
@@ -50,7 +50,7 @@ impl<L: BlockLibrary, S: KeyframeStore> Player<L, S> {
     pub(crate) fn play(&mut self, sheet: &Sheet, start: u32, end: u32)
         requires order { start ≤ end }
         requires inside { end < 4096 }
-        ensures plays { Plays (L.BlockLibrary.meaning self.old.library) self.old.drawing (rows_of (page sheet.now)) start self.old.states.all (S.KeyframeStore.means self.old.store) end self.new.states.all (S.KeyframeStore.means self.new.store) }
+        ensures plays { Plays (L.meaning self.old.library) self.old.drawing (rows_of (page sheet.now)) start self.old.states.all (S.means self.old.store) end self.new.states.all (S.means self.new.store) }
         ensures stays { Stays self.old self.new }
     {
         for c in start..end {
@@ -60,7 +60,7 @@ impl<L: BlockLibrary, S: KeyframeStore> Player<L, S> {
 
     // Brings the states to the cycle that a move to end starts from; `current` says whether those at the playhead may be used.
     pub(crate) fn rewind(&mut self, end: u32, current: bool) -> u32
-        ensures starts { Starts (L.BlockLibrary.meaning self.old.library) self.old.drawing (head_of S.KeyframeStore.means self.old) current end result self.new.states.all }
+        ensures starts { Starts (L.meaning self.old.library) self.old.drawing (head_of S.means self.old) current end result self.new.states.all }
         ensures stays { Stays self.old self.new }
         ensures store { self.new.store ≡ self.old.store }
     {
@@ -84,7 +84,7 @@ impl<L: BlockLibrary, S: KeyframeStore> Player<L, S> {
         requires short { end < 4096 }
         requires inside { 0 < self.old.rows → end < self.old.rows }
         requires ahead { current ≡ true → self.old.at ≤ end }
-        ensures moves { Moves (L.BlockLibrary.meaning self.old.library) self.old.drawing (rows_of (page sheet.now)) (head_of S.KeyframeStore.means self.old) current end result (head_of S.KeyframeStore.means self.new) }
+        ensures moves { Moves (L.meaning self.old.library) self.old.drawing (rows_of (page sheet.now)) (head_of S.means self.old) current end result (head_of S.means self.new) }
         ensures stays { Stays self.old self.new }
     {
         let start = self.rewind(end, current);
@@ -99,7 +99,7 @@ impl<L: BlockLibrary, S: KeyframeStore> Player<L, S> {
     pub(crate) fn move_to(&mut self, sheet: &Sheet, cycle: u32) -> u32
         requires short { cycle < 4096 }
         requires inside { 0 < self.old.rows → cycle < self.old.rows }
-        ensures moves { Moves (L.BlockLibrary.meaning self.old.library) self.old.drawing (rows_of (page sheet.now)) (head_of S.KeyframeStore.means self.old) (nat_le self.old.at cycle) cycle result (head_of S.KeyframeStore.means self.new) }
+        ensures moves { Moves (L.meaning self.old.library) self.old.drawing (rows_of (page sheet.now)) (head_of S.means self.old) (nat_le self.old.at cycle) cycle result (head_of S.means self.new) }
         ensures stays { Stays self.old self.new }
     {
         self.go(sheet, cycle, self.at <= cycle)

@@ -16,15 +16,15 @@ use walk::{begin, opens, work};
 impl<L: BlockLibrary, S: KeyframeStore> Player<L, S> {
     // Tests the rows, the columns and the library, in this order.
     fn test_opening(&self, drawing: &Drawing, sheet: &Sheet) -> Result<(), Fault>
-        ensures { MatchResult result (λ _. Openable (L.BlockLibrary.meaning self.now.library) drawing.now (page sheet.now)) (Unopenable (L.BlockLibrary.meaning self.now.library) drawing.now (page sheet.now)) }
+        ensures { MatchResult result (λ _. Openable (L.meaning self.now.library) drawing.now (page sheet.now)) (Unopenable (L.meaning self.now.library) drawing.now (page sheet.now)) }
     {
         opens(&self.library, drawing, sheet)
     }
 
     // Begins anew: the store is emptied, and the playhead is at cycle 0 with first states.
     fn start(&mut self, drawing: Drawing, sheet: &Sheet)
-        requires { Openable (L.BlockLibrary.meaning self.old.library) drawing (page sheet.now) }
-        ensures { Opens L.BlockLibrary.meaning S.KeyframeStore.means self.old drawing (page sheet.now) self.new }
+        requires { Openable (L.meaning self.old.library) drawing (page sheet.now) }
+        ensures { Opens L.meaning S.means self.old drawing (page sheet.now) self.new }
     {
         self.store.empty();
         self.states = begin(&self.library, &drawing);
@@ -37,7 +37,7 @@ impl<L: BlockLibrary, S: KeyframeStore> Player<L, S> {
 
     // Opens the player on a drawing and a sheet. A refused open hands the drawing back.
     pub fn open(&mut self, drawing: Drawing, sheet: &Sheet) -> Result<(), Unopened>
-        ensures { MatchResult result (λ _. Opens L.BlockLibrary.meaning S.KeyframeStore.means self.old drawing (page sheet.now) self.new) (λ e. Unopenable (L.BlockLibrary.meaning self.old.library) drawing (page sheet.now) e.fault × (e.drawing ≡ drawing) × (self.new ≡ self.old)) }
+        ensures { MatchResult result (λ _. Opens L.meaning S.means self.old drawing (page sheet.now) self.new) (λ e. Unopenable (L.meaning self.old.library) drawing (page sheet.now) e.fault × (e.drawing ≡ drawing) × (self.new ≡ self.old)) }
     {
         match self.test_opening(&drawing, sheet) {
             Ok(()) => {

@@ -15,8 +15,8 @@ use sheet::{Returned, Sheet, Slip};
 impl<L: BlockLibrary, S: KeyframeStore> Player<L, S> {
     // Opens a trial, and hands out its slip.
     pub fn begin_trial(&self, sheet: &mut Sheet) -> Result<Slip, Fault>
-        ensures outcome { Does L.BlockLibrary.meaning S.KeyframeStore.means self.now (page sheet.old) Begin (slip_or result) self.now (page sheet.new) }
-        ensures law { Obeys L.BlockLibrary.meaning S.KeyframeStore.means self.now (page sheet.old) Begin (slip_or result) self.now (page sheet.new) }
+        ensures outcome { Does L.meaning S.means self.now (page sheet.old) Begin (slip_or result) self.now (page sheet.new) }
+        ensures law { Obeys L.meaning S.means self.now (page sheet.old) Begin (slip_or result) self.now (page sheet.new) }
         ensures untouched { Untouched result sheet.old sheet.new }
     {
         if !self.serves(sheet) {
@@ -27,8 +27,8 @@ impl<L: BlockLibrary, S: KeyframeStore> Player<L, S> {
 
     // Ends a trial and keeps its writes.
     pub fn confirm_trial(&self, sheet: &mut Sheet, slip: Slip) -> Result<u32, Returned>
-        ensures outcome { Does L.BlockLibrary.meaning S.KeyframeStore.means self.now (page sheet.old) (Confirm slip.standing) (spent_or result) self.now (page sheet.new) }
-        ensures law { Obeys L.BlockLibrary.meaning S.KeyframeStore.means self.now (page sheet.old) (Confirm slip.standing) (spent_or result) self.now (page sheet.new) }
+        ensures outcome { Does L.meaning S.means self.now (page sheet.old) (Confirm slip.standing) (spent_or result) self.now (page sheet.new) }
+        ensures law { Obeys L.meaning S.means self.now (page sheet.old) (Confirm slip.standing) (spent_or result) self.now (page sheet.new) }
         ensures untouched { Untouched result sheet.old sheet.new }
         ensures back { HandsBack slip result }
     {
@@ -46,8 +46,8 @@ impl<L: BlockLibrary, S: KeyframeStore> Player<L, S> {
 
     // Ends a trial and strikes out every write standing since its begin; answers the cycles worked.
     pub fn drop_trial(&mut self, sheet: &mut Sheet, slip: Slip) -> Result<u32, Returned>
-        ensures outcome { Does L.BlockLibrary.meaning S.KeyframeStore.means self.old (page sheet.old) (Drop slip.standing) (spent_or result) self.new (page sheet.new) }
-        ensures law { Obeys L.BlockLibrary.meaning S.KeyframeStore.means self.old (page sheet.old) (Drop slip.standing) (spent_or result) self.new (page sheet.new) }
+        ensures outcome { Does L.meaning S.means self.old (page sheet.old) (Drop slip.standing) (spent_or result) self.new (page sheet.new) }
+        ensures law { Obeys L.meaning S.means self.old (page sheet.old) (Drop slip.standing) (spent_or result) self.new (page sheet.new) }
         ensures untouched { Untouched result sheet.old sheet.new }
         ensures back { HandsBack slip result }
         ensures stays { Stays self.old self.new }

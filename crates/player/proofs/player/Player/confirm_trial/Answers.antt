@@ -15,6 +15,6 @@ pub returns-in-Err : goal.returns-in-Err
 returns-in-Err g c =
     let q = c.args.self.now in
     let p = page c.args.sheet.now in
-    let not = slip_back (Unit {0}) (slip_refusal p c.args.slip) p (closed p) tt (page c.close-trial.new.self) c.args.slip c.in-Err.back c.in-Err.ensures.outcome in
-    let both = refusal g.L.BlockLibrary.meaning g.S.KeyframeStore.means g.met.L.BlockLibrary.sound q p (Confirm c.args.slip.standing) c.in-Err.back.fault (page c.close-trial.new.self) not.2 (tested _ _ (sym c.if-not-serves.ensures) ∙ not.0) in
+    let not = slip_back (Unit {0}) (slip_refusal p c.args.slip) p (closed p) tt (page c.close_trial.new.self) c.args.slip c.in-Err.back c.in-Err.ensures.outcome in
+    let both = refusal g.L.BlockLibrary.meaning g.S.KeyframeStore.means g.met.L.BlockLibrary.sound q p (Confirm c.args.slip.standing) c.in-Err.back.fault (page c.close_trial.new.self) not.2 (tested _ _ (sym c.if-not-serves.ensures) ∙ not.0) in
     record { outcome = both.0; law = both.1; untouched = c.in-Err.ensures.untouched; back = not.1 }

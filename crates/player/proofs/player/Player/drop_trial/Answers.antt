@@ -20,15 +20,15 @@ pub returns-in-Ok : goal.returns-in-Ok
 returns-in-Ok g c =
     let q = c.args.self.now in
     let p = page c.args.sheet.now in
-    let struck = slip_spent (Option ℕ) (slip_refusal p c.args.slip) p (struck_since p c.args.slip.standing) (lowest (since p c.args.slip.standing)) (page c.strike-since.new.self) c.args.slip c.in-Ok.low c.in-Ok.ensures.outcome in
-    let renews = subst (λ low. RenewsFrom g.S.KeyframeStore.means (g.L.BlockLibrary.meaning q.library) q.drawing (rows_of (page c.strike-since.new.self)) (head_of g.S.KeyframeStore.means q) low c.renew-from.result (head_of g.S.KeyframeStore.means c.renew-from.new.self)) struck.1 c.renew-from.ensures.renews in
-    let both = doing g.L.BlockLibrary.meaning g.S.KeyframeStore.means g.met.L.BlockLibrary.sound q p (Drop c.args.slip.standing) (Worked c.renew-from.result) c.renew-from.new.self (page c.strike-since.new.self) (tested _ _ (sym c.if-not-serves.ensures) ∙ struck.0) (struck.2, (c.renew-from.result, refl, renews)) in
-    record { outcome = both.0; law = both.1; untouched = tt; back = tt; stays = c.renew-from.ensures.stays }
+    let struck = slip_spent (Option ℕ) (slip_refusal p c.args.slip) p (struck_since p c.args.slip.standing) (lowest (since p c.args.slip.standing)) (page c.strike_since.new.self) c.args.slip c.in-Ok.low c.in-Ok.ensures.outcome in
+    let renews = subst (λ low. RenewsFrom g.S.KeyframeStore.means (g.L.BlockLibrary.meaning q.library) q.drawing (rows_of (page c.strike_since.new.self)) (head_of g.S.KeyframeStore.means q) low c.renew_from.result (head_of g.S.KeyframeStore.means c.renew_from.new.self)) struck.1 c.renew_from.ensures.renews in
+    let both = doing g.L.BlockLibrary.meaning g.S.KeyframeStore.means g.met.L.BlockLibrary.sound q p (Drop c.args.slip.standing) (Worked c.renew_from.result) c.renew_from.new.self (page c.strike_since.new.self) (tested _ _ (sym c.if-not-serves.ensures) ∙ struck.0) (struck.2, (c.renew_from.result, refl, renews)) in
+    record { outcome = both.0; law = both.1; untouched = tt; back = tt; stays = c.renew_from.ensures.stays }
 
 pub returns-in-Err : goal.returns-in-Err
 returns-in-Err g c =
     let q = c.args.self.now in
     let p = page c.args.sheet.now in
-    let not = slip_back (Option ℕ) (slip_refusal p c.args.slip) p (struck_since p c.args.slip.standing) (lowest (since p c.args.slip.standing)) (page c.strike-since.new.self) c.args.slip c.in-Err.back c.in-Err.ensures.outcome in
-    let both = refusal g.L.BlockLibrary.meaning g.S.KeyframeStore.means g.met.L.BlockLibrary.sound q p (Drop c.args.slip.standing) c.in-Err.back.fault (page c.strike-since.new.self) not.2 (tested _ _ (sym c.if-not-serves.ensures) ∙ not.0) in
+    let not = slip_back (Option ℕ) (slip_refusal p c.args.slip) p (struck_since p c.args.slip.standing) (lowest (since p c.args.slip.standing)) (page c.strike_since.new.self) c.args.slip c.in-Err.back c.in-Err.ensures.outcome in
+    let both = refusal g.L.BlockLibrary.meaning g.S.KeyframeStore.means g.met.L.BlockLibrary.sound q p (Drop c.args.slip.standing) c.in-Err.back.fault (page c.strike_since.new.self) not.2 (tested _ _ (sym c.if-not-serves.ensures) ∙ not.0) in
     record { outcome = both.0; law = both.1; untouched = c.in-Err.ensures.untouched; back = not.1; stays = stays_refl _ }

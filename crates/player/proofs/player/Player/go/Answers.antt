@@ -8,8 +8,8 @@ use Rattle.player.proofs.player.Player.go.Goals as goal
 pub play-requires : goal.play-requires
 play-requires g c = record { order = starts_below c.requires.ahead c.rewind-start.ensures.starts; inside = c.requires.short }
 
-pub cycles-between-requires : goal.cycles-between-requires
-cycles-between-requires g c = starts_below c.requires.ahead c.rewind-start.ensures.starts
+pub cycles_between-requires : goal.cycles_between-requires
+cycles_between-requires g c = starts_below c.requires.ahead c.rewind-start.ensures.starts
 
 pub returns : goal.returns
 returns g c =
@@ -25,8 +25,8 @@ returns g c =
         starts = back.starts;
         plays = plays_as rows (ap meaning back.stays.library) back.stays.drawing (ap g.S.KeyframeStore.means back.store) on.plays;
         arrived = refl;
-        shows = values_as c.play.new.self.states.all (ap meaning stays.library) stays.drawing (ap values_in c.as-slice.ensures ∙ c.row-row.ensures.values) c.work-self.ensures;
-        reported = c.cycles-between.ensures;
+        shows = values_as c.play.new.self.states.all (ap meaning stays.library) stays.drawing (ap values_in c.as_slice.ensures ∙ c.row-row.ensures.values) c.work-self.ensures;
+        reported = c.cycles_between.ensures;
         same_rows = stays.rows;
       };
       stays = record { library = stays.library; drawing = stays.drawing; rows = stays.rows };

@@ -24,5 +24,5 @@ pub returns : goal.returns
 returns g c =
     let p = page c.args.sheet.now in
     let inside : c.args.cycle < p.rows = omega (arith, c.rows.ensures, c.if-cycle-rows.false) in
-    let both = doing g.L.BlockLibrary.meaning g.S.KeyframeStore.means g.met.L.BlockLibrary.sound c.args.self.now p (Jump c.args.cycle) (Worked c.move-to.result) c.move-to.new.self p (tested _ _ (sym c.if-not-serves.ensures) ∙ beyond_none p.rows c.args.cycle inside) (refl, (c.move-to.result, refl, c.move-to.ensures.moves)) in
-    record { outcome = both.0; law = both.1; stays = c.move-to.ensures.stays }
+    let both = doing g.L.BlockLibrary.meaning g.S.KeyframeStore.means g.met.L.BlockLibrary.sound c.args.self.now p (Jump c.args.cycle) (Worked c.move_to.result) c.move_to.new.self p (tested _ _ (sym c.if-not-serves.ensures) ∙ beyond_none p.rows c.args.cycle inside) (refl, (c.move_to.result, refl, c.move_to.ensures.moves)) in
+    record { outcome = both.0; law = both.1; stays = c.move_to.ensures.stays }

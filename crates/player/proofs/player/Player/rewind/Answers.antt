@@ -4,7 +4,7 @@ use Rattle.player.specs.Moves.{Starts, NoneBetween, playhead, keyframe, beginnin
 use Rattle.player.specs.Play.{head_of}
 use Rattle.player.proofs.Playing.{fetched}
 use Rattle.player.proofs.player.Player.rewind.Goals as goal
-use Rattle.player.proofs.player.Player.rewind.Goals.{then-not-current-via-then-not-current, then-not-current-via-else-not-current+then-self-c, in-Some+else-not-current+else-self-c, in-default}
+use Rattle.player.proofs.player.Player.rewind.Goals.{then-not-current-via-then-not-current, then-not-current-via-else-not-current+then-self-c, in-Some+else-not-current+else-self-c, in_default}
 
 pub returns-then-not-current : goal.returns-then-not-current
 returns-then-not-current g c =
@@ -28,7 +28,7 @@ returns-then-current g c =
     let top : NoneBetween (g.S.KeyframeStore.means p.store) p.at c.args.end = λ d low high.
     elim c.match-find.branch [
       | in-Some+else-not-current+else-self-c w ↦ w.in-Some.ensures.2 d (omega (arith, w.if-self-c.false)) high
-      | in-default w ↦ w.in-default.ensures d high
+      | in_default w ↦ w.in_default.ensures d high
     ] in
     record { starts = playhead c.if-current.true top; stays = record { library = refl; drawing = refl; rows = refl }; store = refl }
 
@@ -38,7 +38,7 @@ returns g c =
       starts = beginning _ c.if-current.false (λ d low.
           elim c.match-find.branch [
             | in-Some+else-not-current+else-self-c w ↦ absurd (both_ways c.args.current c.if-current.false w.if-not-current.false)
-            | in-default w ↦ w.in-default.ensures d low
+            | in_default w ↦ w.in_default.ensures d low
           ]) c.begin-self.ensures;
       stays = record { library = refl; drawing = refl; rows = refl };
       store = refl;

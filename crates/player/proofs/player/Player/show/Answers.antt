@@ -28,5 +28,5 @@ returns g c =
     let q = c.args.self.now in
     let some : ltb 0 q.rows ≡ true = lt-ltb 0 q.rows (omega (arith, c.if-self-eq0.false)) in
     let inside : c.args.block < length (blocks_of q.drawing) = omega (arith, ap length c.blocks-2.ensures, c.if-block-blocks.false) in
-    let both = λ (p : Page). doing g.L.BlockLibrary.meaning g.S.KeyframeStore.means g.met.L.BlockLibrary.sound q p (Show c.args.block) (Value c.value-at.result) q p (tested _ _ some ∙ block_none _ _ inside) (refl, refl, ap Value c.value-at.ensures) in
+    let both = λ (p : Page). doing g.L.BlockLibrary.meaning g.S.KeyframeStore.means g.met.L.BlockLibrary.sound q p (Show c.args.block) (Value c.value_at.result) q p (tested _ _ some ∙ block_none _ _ inside) (refl, refl, ap Value c.value_at.ensures) in
     record { outcome = λ p. (both p).0; law = λ p. (both p).1 }

@@ -20,7 +20,7 @@ pub returns-in-Ok : goal.returns-in-Ok
 returns-in-Ok g c =
     let q = c.args.self.now in
     let p = page c.args.sheet.now in
-    let struck = sheet_done ℕ (strike_refusal p) p (struck_latest p) (latest_write p).cycle (page c.strike-latest.new.self) c.in-Ok.k c.in-Ok.ensures.outcome in
-    let renews = subst (λ k. Renews g.S.KeyframeStore.means (g.L.BlockLibrary.meaning q.library) q.drawing (rows_of (page c.strike-latest.new.self)) (head_of g.S.KeyframeStore.means q) k c.renew.result (head_of g.S.KeyframeStore.means c.renew.new.self)) struck.1 c.renew.ensures.renews in
-    let both = doing g.L.BlockLibrary.meaning g.S.KeyframeStore.means g.met.L.BlockLibrary.sound q p TakeBack (Worked c.renew.result) c.renew.new.self (page c.strike-latest.new.self) (tested _ _ (sym c.if-not-serves.ensures) ∙ struck.0) (struck.2, (c.renew.result, refl, renews)) in
+    let struck = sheet_done ℕ (strike_refusal p) p (struck_latest p) (latest_write p).cycle (page c.strike_latest.new.self) c.in-Ok.k c.in-Ok.ensures.outcome in
+    let renews = subst (λ k. Renews g.S.KeyframeStore.means (g.L.BlockLibrary.meaning q.library) q.drawing (rows_of (page c.strike_latest.new.self)) (head_of g.S.KeyframeStore.means q) k c.renew.result (head_of g.S.KeyframeStore.means c.renew.new.self)) struck.1 c.renew.ensures.renews in
+    let both = doing g.L.BlockLibrary.meaning g.S.KeyframeStore.means g.met.L.BlockLibrary.sound q p TakeBack (Worked c.renew.result) c.renew.new.self (page c.strike_latest.new.self) (tested _ _ (sym c.if-not-serves.ensures) ∙ struck.0) (struck.2, (c.renew.result, refl, renews)) in
     record { outcome = both.0; law = both.1; untouched = tt; stays = c.renew.ensures.stays }
