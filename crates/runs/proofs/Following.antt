@@ -1,8 +1,10 @@
 -- A chain of calls follows the walker.
 use Rattle.std.proofs.Common.{◌≡◌, ℕ, List, length, Some, None, Option, sym, refl, ap, ◌∙◌, subst}
 use Rattle.faults.specs.declared.fault.Fault.{Fault}
+use Rattle.blocks.specs.declared.library.BlockLibrary as BlockLibrary
 use Rattle.blocks.specs.Library.{Library, Sound}
 use Rattle.drawing.specs.declared.drawing.Drawing.{Drawing}
+use Rattle.keyframes.specs.declared.store.KeyframeStore as KeyframeStore
 use Rattle.keyframes.specs.Frames.{Frames}
 use Rattle.sheet.specs.Page.{Page}
 use Rattle.marks.specs.declared.table.MarkTable.{MarkTable}
@@ -48,11 +50,11 @@ answered_ground L D p w (feed.Drop k) None a is = is
 answered_ground L D p w (feed.Show b) None a is = is
 answered_ground L D p w (feed.Tally i) None a is = is
 
-module _ {L S : Type 0} (library : L → Library) (store : S → Frames) (sound : (l : L) → Sound (library l)) where
+module _ {L S : Type 0} {l : BlockLibrary.Ghosts L} {s : KeyframeStore.Ghosts S} (library : L → Library) (store : S → Frames) (sound : (l : L) → Sound (library l)) where
   -- one call keeps the agreement
-  made_agreed : (d e : Desk L S) (c : Call) (a : Answer) (x : Session) (o : Option Feed) → MadeOf library store o c d a e → Agreed store (library d.player.library) d.player.drawing d x
+  made_agreed : (d e : Desk L S l s) (c : Call) (a : Answer) (x : Session) (o : Option Feed) → MadeOf library store o c d a e → Agreed store (library d.player.library) d.player.drawing d x
       → Agreed store (library d.player.library) d.player.drawing e (fed_with (ground d.page) (length (blocks_of d.player.drawing)) x c o) × AnsweredFed (library d.player.library) d.player.drawing (ground d.page) x o a
-  made_agreed d e c a x None (no_slip, same) agreed = (subst (λ (u : Desk L S). Agreed store (library d.player.library) d.player.drawing u x) (sym same) agreed, no_slip)
+  made_agreed d e c a x None (no_slip, same) agreed = (subst (λ (u : Desk L S l s). Agreed store (library d.player.library) d.player.drawing u x) (sym same) agreed, no_slip)
   made_agreed d e c a x (Some f) (does, hand, stays) (agrees, slips) =
       let M = library d.player.library in
       let D = d.player.drawing in
@@ -69,7 +71,7 @@ module _ {L S : Type 0} (library : L → Library) (store : S → Frames) (sound 
       )
 
   -- a chain obeys the law, from agreement with any walker
-  pub chain_follows : {marks : MarkTable} {d d' : Desk L S} {cs : List Call} {rs : List Answer} → Chain library store marks d cs rs d' → Follows library store marks d cs rs d'
+  pub chain_follows : {marks : MarkTable} {d d' : Desk L S l s} {cs : List Call} {rs : List Answer} → Chain library store marks d cs rs d' → Follows library store marks d cs rs d'
   chain_follows done x agreed = (agreed, tt)
   chain_follows {marks} {d' = d'} (call {d = d} {e = e} {c = c} {cs = cs} {a = a} {rs = rs} made rest) x agreed =
       let M = library d.player.library in
@@ -86,7 +88,7 @@ module _ {L S : Type 0} (library : L → Library) (store : S → Frames) (sound 
       let end = on (after g m marks x c) first.0 in
       (end.0, (first.1, end.1))
 
-  pub tells_runs : (marks : MarkTable) (d d' : Desk L S) (calls : List Call) (before now : List Answer) → Tells library store marks d calls before now d' → Runs library store marks d calls before now d'
+  pub tells_runs : (marks : MarkTable) (d d' : Desk L S l s) (calls : List Call) (before now : List Answer) → Tells library store marks d calls before now d' → Runs library store marks d calls before now d'
   tells_runs marks d d' calls before now t = record {
     tells = t;
     law = chain_follows t.chain;

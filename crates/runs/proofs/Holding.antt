@@ -5,7 +5,9 @@ use Rattle.std.proofs.lemmas.List.{get_or_read}
 use Rattle.std.specs.List.{remove, insert}
 use Rattle.faults.specs.declared.fault.Fault.{Fault}
 use Rattle.values.specs.declared.scalar.Value.{Value}
+use Rattle.blocks.specs.declared.library.BlockLibrary as BlockLibrary
 use Rattle.blocks.specs.Library.{Library}
+use Rattle.keyframes.specs.declared.store.KeyframeStore as KeyframeStore
 use Rattle.keyframes.specs.Frames.{Frames}
 use Rattle.sheet.specs.declared.slip.Slip.{Slip}
 use Rattle.sheet.specs.Page.{Page}
@@ -46,7 +48,7 @@ kept : (o : Option Fault) (c : Call) (n : ℕ) (hand : List Slip) → handed c n
 kept (Some f) c n hand same = refl
 kept None c n hand same = sym same
 
-module _ {L S : Type 0} (library : L → Library) (store : S → Frames) (q q' : Player L S) (p p' : Page) where
+module _ {L S : Type 0} {l : BlockLibrary.Ghosts L} {s : KeyframeStore.Ghosts S} (library : L → Library) (store : S → Frames) (q q' : Player L S l s) (p p' : Page) where
   -- a refused call that was lent the slip at place i
   held_refused : (F : ℕ → Feed) (c : Call) (hand left now : List Slip) (i : ℕ) (slip back : Slip) (f : Fault)
       → (Done store (library q.library) q.drawing (head_of store q) p (F slip.standing) (answer.Refused f) (head_of store q') p' → ⊥)

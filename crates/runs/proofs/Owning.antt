@@ -1,12 +1,14 @@
 -- A hand that began empty holds the slip of the open trial alone, or none.
-use Rattle.std.proofs.Common.{◌≡◌, ℕ, ◌<◌, Bool, true, false, cond, ltb, ◌⊎◌, List, [], ◌∷◌, ◌++◌, length, Some, None, vec_items, Option, sym, refl, ap, ◌∙◌, subst, inl, inr, ⊎_elim, arith}
+use Rattle.std.proofs.Common.{◌≡◌, ℕ, ◌<◌, Bool, true, false, cond, ltb, List, [], ◌∷◌, ◌++◌, length, Some, None, vec_items, Option, sym, refl, ap, ◌∙◌, subst, inl, inr, ⊎_elim, arith}
 use Rattle.std.proofs.lemmas.List.{nil_from_length}
 use Rattle.std.proofs.lemmas.Bool.{ltb-true}
 use Rattle.std.proofs.lemmas.Bool.Decides.{nat_tests}
 use Rattle.std.specs.List.{remove}
 use Rattle.faults.specs.declared.fault.Fault.{Fault}
+use Rattle.blocks.specs.declared.library.BlockLibrary as BlockLibrary
 use Rattle.blocks.specs.Library.{Library}
 use Rattle.drawing.specs.declared.drawing.Drawing.{Drawing}
+use Rattle.keyframes.specs.declared.store.KeyframeStore as KeyframeStore
 use Rattle.keyframes.specs.Frames.{Frames}
 use Rattle.sheet.specs.declared.slip.Slip.{Slip}
 use Rattle.sheet.specs.Page.{Page}
@@ -53,7 +55,7 @@ spent hand hand' trial trial' i own inside now =
 kept : (hand hand' : List Slip) (trial trial' : Option ℕ) → Own hand trial → hand' ≡ hand → trial' ≡ trial → Own hand' trial'
 kept hand hand' trial trial' own same-hand same_trial = subst (λ h. Own h trial') (sym same-hand) (subst (Own hand) (sym same_trial) own)
 
-module _ {L S : Type 0} (library : L → Library) (store : S → Frames) (d e : Desk L S) (a : Answer) (own : Own d.hand d.page.trial) where
+module _ {L S : Type 0} {l : BlockLibrary.Ghosts L} {s : KeyframeStore.Ghosts S} (library : L → Library) (store : S → Frames) (d e : Desk L S l s) (a : Answer) (own : Own d.hand d.page.trial) where
   -- a refused call keeps hand and trial
   either : (c : Call) (f : Feed) → MadeOf library store (Some f) c d a e
       → (fault library store d.player d.page f ≡ None → Done store (library d.player.library) d.player.drawing (head_of store d.player) d.page f a (head_of store e.player) e.page → e.hand ≡ handed c (length d.page.writes) d.hand → Own e.hand e.page.trial)
@@ -68,7 +70,7 @@ module _ {L S : Type 0} (library : L → Library) (store : S → Frames) (d e : 
   same_trial p page trial hand = kept d.hand e.hand d.page.trial e.page.trial own hand (ap (λ (p : Page). p.trial) page ∙ trial)
 
   no_slip : (c : Call) → MadeOf library store None c d a e → Own e.hand e.page.trial
-  no_slip c (is, same) = subst (λ (x : Desk L S). Own x.hand x.page.trial) (sym same) own
+  no_slip c (is, same) = subst (λ (x : Desk L S l s). Own x.hand x.page.trial) (sym same) own
 
   own_made : (marks : MarkTable) (c : Call) → Made library store marks c d a e → Own e.hand e.page.trial
   own_made marks calls.Step made = either calls.Step feed.Step made (λ none did now. same_trial _ did.0 refl now)
@@ -90,7 +92,7 @@ module _ {L S : Type 0} (library : L → Library) (store : S → Frames) (d e : 
   own_made marks (calls.Show b) made = either (calls.Show b) (feed.Show b) made (λ none did now. same_trial _ did.1 refl now)
   own_made marks (calls.Tally i) made = either (calls.Tally i) (feed.Tally i) made (λ none did now. same_trial _ did.1 refl now)
 
-own_chain : {L S : Type 0} (library : L → Library) (store : S → Frames) {marks : MarkTable} {d e : Desk L S} {cs : List Call} {rs : List Answer} → Own d.hand d.page.trial → Chain library store marks d cs rs e → Own e.hand e.page.trial
+own_chain : {L S : Type 0} {l : BlockLibrary.Ghosts L} {s : KeyframeStore.Ghosts S} (library : L → Library) (store : S → Frames) {marks : MarkTable} {d e : Desk L S l s} {cs : List Call} {rs : List Answer} → Own d.hand d.page.trial → Chain library store marks d cs rs e → Own e.hand e.page.trial
 own_chain library store own done = own
 own_chain library store {marks} own (call {d = d} {e = m} {c = c} {a = a} made rest) = own_chain library store (own_made library store d m a own marks c made) rest
 
@@ -98,7 +100,7 @@ pub no_slips : (hand : EmptyHand) → vec_items hand.slips ≡ []
 no_slips hand = nil_from_length (vec_items hand.slips) (sym hand.slips.ok.0 ∙ hand.empty)
 
 -- a replay whose hand began empty
-module _ {L S : Type 0} (library : L → Library) (store : S → Frames) (marks : MarkTable) (D : Drawing) (q : Player L S) (p : Page) (lent : List Slip) (calls : List Call) (before now : List Answer) (end : Desk L S) (empty : lent ≡ [])
+module _ {L S : Type 0} {l : BlockLibrary.Ghosts L} {s : KeyframeStore.Ghosts S} (library : L → Library) (store : S → Frames) (marks : MarkTable) (D : Drawing) (q : Player L S l s) (p : Page) (lent : List Slip) (calls : List Call) (before now : List Answer) (end : Desk L S l s) (empty : lent ≡ [])
     (r : Replays library store marks D (desk q p lent) calls before now end) where
   pub replay_own : Own end.hand end.page.trial
   replay_own = own_chain library store (inl empty) r.runs.tells.chain

@@ -1,8 +1,10 @@
 -- A run from the opening.
 use Rattle.std.proofs.Common.{◌≡◌, ℕ, List, [], Some, None, Option, sym, refl, ap, ◌∙◌, subst, arith}
 use Rattle.values.specs.declared.working.Row.{Row}
+use Rattle.blocks.specs.declared.library.BlockLibrary as BlockLibrary
 use Rattle.blocks.specs.Library.{Library, Sound}
 use Rattle.drawing.specs.declared.drawing.Drawing.{Drawing}
+use Rattle.keyframes.specs.declared.store.KeyframeStore as KeyframeStore
 use Rattle.keyframes.specs.Frames.{Frames}
 use Rattle.sheet.specs.declared.slip.Slip.{Slip}
 use Rattle.sheet.specs.Page.{Page}
@@ -39,9 +41,9 @@ ends_of L sound D h p g w same a =
       any_order = any_order L sound D a.fitting (rows_of p);
     }
 
-module _ {L S : Type 0} (library : L → Library) (store : S → Frames) (sound : (l : L) → Sound (library l)) where
+module _ {L S : Type 0} {l : BlockLibrary.Ghosts L} {s : KeyframeStore.Ghosts S} (library : L → Library) (store : S → Frames) (sound : (l : L) → Sound (library l)) where
   -- a player just opened agrees with the walker at cycle 0
-  pub opens_agrees : (q q' : Player L S) (D : Drawing) (p : Page) → Opens library store q D p q' → Agrees (library q.library) D (head_of store q') p (walker_on p)
+  pub opens_agrees : (q q' : Player L S l s) (D : Drawing) (p : Page) → Opens library store q D p q' → Agrees (library q.library) D (head_of store q') p (walker_on p)
   opens_agrees q q' D p o =
       let M = library q.library in
       let fitting = o.openable.fitting in
@@ -58,12 +60,12 @@ module _ {L S : Type 0} (library : L → Library) (store : S → Frames) (sound 
       }
 
   -- what was told in lists that were made longer
-  pub lent : (marks : MarkTable) (q : Player L S) (p : Page) (hand hand' : List Slip) (calls : List Call) (before before' now : List Answer) (d' : Desk L S) → hand' ≡ hand → before' ≡ before
+  pub lent : (marks : MarkTable) (q : Player L S l s) (p : Page) (hand hand' : List Slip) (calls : List Call) (before before' now : List Answer) (d' : Desk L S l s) → hand' ≡ hand → before' ≡ before
       → Tells library store marks (desk q p hand') calls before' now d' → Tells library store marks (desk q p hand) calls before now d'
   lent marks q p hand hand' calls before before' now d' same-hand same-answers t =
       subst (λ h. Tells library store marks (desk q p h) calls before now d') same-hand (subst (λ b. Tells library store marks (desk q p hand') calls b now d') same-answers t)
 
-  pub replays : (marks : MarkTable) (q q' : Player L S) (D : Drawing) (p : Page) (hand : List Slip) (calls : List Call) (before now : List Answer) (d' : Desk L S) → Opens library store q D p q'
+  pub replays : (marks : MarkTable) (q q' : Player L S l s) (D : Drawing) (p : Page) (hand : List Slip) (calls : List Call) (before now : List Answer) (d' : Desk L S l s) → Opens library store q D p q'
       → Tells library store marks (desk q' p hand) calls before now d' → Replays library store marks D (desk q p hand) calls before now d'
   replays marks q q' D p hand calls before now d' o t =
       let M = library q.library in

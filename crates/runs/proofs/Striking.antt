@@ -5,8 +5,10 @@ use Rattle.std.proofs.lemmas.Bool.{cases_lt}
 use Rattle.std.proofs.lemmas.Bool.Decides.{nat_tests}
 use Rattle.faults.specs.declared.fault.Fault.{Fault}
 use Rattle.faults.specs.declared.fault.Fault.TheVariants.{NotOpened}
+use Rattle.blocks.specs.declared.library.BlockLibrary as BlockLibrary
 use Rattle.blocks.specs.Library.{Library}
 use Rattle.drawing.specs.declared.drawing.Drawing.{Drawing}
+use Rattle.keyframes.specs.declared.store.KeyframeStore as KeyframeStore
 use Rattle.keyframes.specs.Frames.{Frames}
 use Rattle.sheet.specs.declared.write.Write.{Write}
 use Rattle.sheet.specs.Cells.{no_write}
@@ -105,7 +107,7 @@ pub went : {S : Type 0} (store : S → Frames) (L : Library) (D : Drawing) (h h'
 went store L D h h' p p' a None d = absurd d
 went store L D h h' p p' a (Some t) d = (d.0, (d.1.0, d.1.1))
 
-module _ {L S : Type 0} (library : L → Library) (store : S → Frames) (past : List Event) (d e : Desk L S) (a : Answer) (kept : Kept past d.page) where
+module _ {L S : Type 0} {l : BlockLibrary.Ghosts L} {s : KeyframeStore.Ghosts S} (library : L → Library) (store : S → Frames) (past : List Event) (d e : Desk L S l s) (a : Answer) (kept : Kept past d.page) where
   -- a refused call leaves the sheet
   either : (c : Call) (f : Feed) → MadeOf library store (Some f) c d a e
       → (fault library store d.player d.page f ≡ None → Done store (library d.player.library) d.player.drawing (head_of store d.player) d.page f a (head_of store e.player) e.page → Kept (event_of c a ∷ past) e.page)
@@ -123,7 +125,7 @@ module _ {L S : Type 0} (library : L → Library) (store : S → Frames) (past :
   unchanged = kept_same past d.page kept d.page refl
 
   no_slip : (c : Call) → MadeOf library store None c d a e → Kept (event_of c a ∷ past) e.page
-  no_slip c (is, same) = by_answer c answer.NoSlip d.page is (ap (λ (x : Desk L S). x.page) same) unchanged
+  no_slip c (is, same) = by_answer c answer.NoSlip d.page is (ap (λ (x : Desk L S l s). x.page) same) unchanged
 
   pub made_kept : (marks : MarkTable) (c : Call) → Made library store marks c d a e → Kept (event_of c a ∷ past) e.page
   made_kept marks calls.Step made = either calls.Step feed.Step made (λ none did. by_answer calls.Step (answer.Worked did.1.0) d.page did.1.1 did.0 unchanged)
@@ -145,6 +147,6 @@ module _ {L S : Type 0} (library : L → Library) (store : S → Frames) (past :
   made_kept marks (calls.Show b) made = either (calls.Show b) (feed.Show b) made (λ none did. by_answer (calls.Show b) _ d.page did.2 did.1 unchanged)
   made_kept marks (calls.Tally i) made = either (calls.Tally i) (feed.Tally i) made (λ none did. by_answer (calls.Tally i) _ d.page did.2 did.1 unchanged)
 
-pub chain_kept : {L S : Type 0} (library : L → Library) (store : S → Frames) {marks : MarkTable} {d d' : Desk L S} {cs : List Call} {rs : List Answer} (past : List Event) → Kept past d.page → Chain library store marks d cs rs d' → Kept (history past cs rs) d'.page
+pub chain_kept : {L S : Type 0} {l : BlockLibrary.Ghosts L} {s : KeyframeStore.Ghosts S} (library : L → Library) (store : S → Frames) {marks : MarkTable} {d d' : Desk L S l s} {cs : List Call} {rs : List Answer} (past : List Event) → Kept past d.page → Chain library store marks d cs rs d' → Kept (history past cs rs) d'.page
 chain_kept library store past kept done = kept
 chain_kept library store {marks} past kept (call {d = d} {e = e} {c = c} {a = a} made rest) = chain_kept library store (event_of c a ∷ past) (made_kept library store past d e a kept marks c made) rest

@@ -1,7 +1,9 @@
 -- A hand that began empty. Assumes nothing.
 use Rattle.std.specs.Prelude.{◌≡◌, ℕ, ◌⊎◌, List, [], ◌∷◌, Some, Option}
+use Rattle.blocks.specs.declared.library.BlockLibrary as BlockLibrary
 use Rattle.blocks.specs.Library.{Library}
 use Rattle.drawing.specs.declared.drawing.Drawing.{Drawing}
+use Rattle.keyframes.specs.declared.store.KeyframeStore as KeyframeStore
 use Rattle.keyframes.specs.Frames.{Frames}
 use Rattle.sheet.specs.declared.slip.Slip.{Slip}
 use Rattle.sheet.specs.Page.{Page, closed}
@@ -23,8 +25,8 @@ Settled [] p p' = p' ≡ p
 Settled (slip ∷ more) p p' = p' ≡ closed p
 
 -- a replay with a hand of its own
-pub record Rehearses {L S : Type 0} (library : L → Library) (store : S → Frames) (marks : MarkTable) (D : Drawing) (q : Player L S) (p : Page) (calls : List Call) (before now : List Answer) (q' : Player L S) (p' : Page) : Type 0 where
-  pub end : Desk L S
+pub record Rehearses {L S : Type 0} {l : BlockLibrary.Ghosts L} {s : KeyframeStore.Ghosts S} (library : L → Library) (store : S → Frames) (marks : MarkTable) (D : Drawing) (q : Player L S l s) (p : Page) (calls : List Call) (before now : List Answer) (q' : Player L S l s) (p' : Page) : Type 0 where
+  pub end : Desk L S l s
   pub replays : Replays library store marks D (desk q p []) calls before now end
   pub player : q' ≡ end.player
   pub settled : Settled end.hand end.page p'

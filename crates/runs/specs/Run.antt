@@ -2,8 +2,10 @@
 use Rattle.std.specs.Prelude.{◌≡◌, ℕ, ◌+◌, ◌<◌, ◌⊎◌, List, [], ◌∷◌, ◌++◌, length, Some, None, vec_len, vec_capacity, Option, Vec}
 use Rattle.std.specs.declared.alloc.Global.{Global}
 use Rattle.values.specs.declared.scalar.Value.{Value}
+use Rattle.blocks.specs.declared.library.BlockLibrary as BlockLibrary
 use Rattle.blocks.specs.Library.{Library}
 use Rattle.drawing.specs.declared.drawing.Drawing.{Drawing}
+use Rattle.keyframes.specs.declared.store.KeyframeStore as KeyframeStore
 use Rattle.keyframes.specs.Frames.{Frames}
 use Rattle.sheet.specs.declared.slip.Slip.{Slip}
 use Rattle.sheet.specs.Page.{Page}
@@ -40,24 +42,24 @@ Answers L D g marks x (c ∷ cs) [] = ⊥
 Answers L D g marks x (c ∷ cs) (a ∷ rs) = AnsweredFed L D g x (fed marks x.hand c) a × Answers L D g marks (after g (length (blocks_of D)) marks x c) cs rs
 
 -- player, sheet and hand agree with the walker and the hand beside it
-abbrev pub Agreed : {L S : Type 0} → (S → Frames) → Library → Drawing → Desk L S → Session → Type 0
+abbrev pub Agreed : {L S : Type 0} {l : BlockLibrary.Ghosts L} {s : KeyframeStore.Ghosts S} → (S → Frames) → Library → Drawing → Desk L S l s → Session → Type 0
 Agreed store L D d x = Agrees L D (head_of store d.player) d.page x.walker × (d.hand ≡ x.hand)
 
 -- from agreement with any walker to agreement with the walker fed the same calls, and each answer is the walker's
-abbrev pub FollowsBy : {L S : Type 0} → (S → Frames) → Library → Drawing → Page → MarkTable → Desk L S → List Call → List Answer → Desk L S → Type 0
+abbrev pub FollowsBy : {L S : Type 0} {l : BlockLibrary.Ghosts L} {s : KeyframeStore.Ghosts S} → (S → Frames) → Library → Drawing → Page → MarkTable → Desk L S l s → List Call → List Answer → Desk L S l s → Type 0
 FollowsBy store L D g marks d calls rs d' = (x : Session) → Agreed store L D d x
     → Agreed store L D d' (after_all g (length (blocks_of D)) marks x calls) × Answers L D g marks x calls rs
 
-abbrev pub Follows : {L S : Type 0} → (L → Library) → (S → Frames) → MarkTable → Desk L S → List Call → List Answer → Desk L S → Type 0
+abbrev pub Follows : {L S : Type 0} {l : BlockLibrary.Ghosts L} {s : KeyframeStore.Ghosts S} → (L → Library) → (S → Frames) → MarkTable → Desk L S l s → List Call → List Answer → Desk L S l s → Type 0
 Follows library store marks d calls rs d' = FollowsBy store (library d.player.library) d.player.drawing (ground d.page) marks d calls rs d'
 
 -- a run after another is one run of both lists of calls
-abbrev pub Continues : {L S : Type 0} → (L → Library) → (S → Frames) → MarkTable → Desk L S → List Call → List Answer → Desk L S → Type 0
-Continues {L} {S} library store marks e calls rs d' = (d : Desk L S) (before : List Call) (told : List Answer)
+abbrev pub Continues : {L S : Type 0} {l : BlockLibrary.Ghosts L} {s : KeyframeStore.Ghosts S} → (L → Library) → (S → Frames) → MarkTable → Desk L S l s → List Call → List Answer → Desk L S l s → Type 0
+Continues {L} {S} {l} {s} library store marks e calls rs d' = (d : Desk L S l s) (before : List Call) (told : List Answer)
     → Chain library store marks d before told e → Chain library store marks d (before ++ calls) (told ++ rs) d' × Follows library store marks d (before ++ calls) (told ++ rs) d'
 
 -- a run: each call's outcome, the law, and what it leaves as it was
-pub record Runs {L S : Type 0} (library : L → Library) (store : S → Frames) (marks : MarkTable) (d : Desk L S) (calls : List Call) (before now : List Answer) (d' : Desk L S) : Type 0 where
+pub record Runs {L S : Type 0} {l : BlockLibrary.Ghosts L} {s : KeyframeStore.Ghosts S} (library : L → Library) (store : S → Frames) (marks : MarkTable) (d : Desk L S l s) (calls : List Call) (before now : List Answer) (d' : Desk L S l s) : Type 0 where
   pub tells : Tells library store marks d calls before now d'
   pub law : Follows library store marks d calls tells.told d'
   pub continues : Continues library store marks d calls tells.told d'
@@ -75,8 +77,8 @@ pub record Ends (L : Library) (D : Drawing) (g : Page) (w : Walker) (at : ℕ) (
   pub any_order : AnyOrder L D (rows_of p)
 
 -- a player opened on a sheet, and then a run: every answer is the walker's, and so is the end
-pub record Replays {L S : Type 0} (library : L → Library) (store : S → Frames) (marks : MarkTable) (D : Drawing) (d : Desk L S) (calls : List Call) (before now : List Answer) (d' : Desk L S) : Type 0 where
-  pub opened : Player L S
+pub record Replays {L S : Type 0} {l : BlockLibrary.Ghosts L} {s : KeyframeStore.Ghosts S} (library : L → Library) (store : S → Frames) (marks : MarkTable) (D : Drawing) (d : Desk L S l s) (calls : List Call) (before now : List Answer) (d' : Desk L S l s) : Type 0 where
+  pub opened : Player L S l s
   pub opens : Opens library store d.player D d.page opened
   pub runs : Runs library store marks (desk opened d.page d.hand) calls before now d'
   -- the walker begins at cycle 0, and on a sheet just made with no write and no trial

@@ -1,4 +1,6 @@
 // Runs of calls, with the law that they obey.
+#![tactic(auto)]
+
 mod call;
 mod halt;
 mod hand;

@@ -65,7 +65,7 @@ fn begin<L: BlockLibrary, S: KeyframeStore>(
     hand: &mut Vec<Slip>,
 ) -> Answer
     requires { vec_len hand.old < vec_capacity hand.old }
-    ensures made { MadeOf L.BlockLibrary.meaning S.KeyframeStore.means (Some feed.Begin) call.Begin (desk player.now (page sheet.old) hand.old.items) result (desk player.now (page sheet.new) hand.new.items) }
+    ensures made { MadeOf L.meaning S.means (Some feed.Begin) call.Begin (desk player.now (page sheet.old) hand.old.items) result (desk player.now (page sheet.new) hand.new.items) }
     ensures room { Roomy hand.old hand.new }
 {
     match player.begin_trial(sheet) {
@@ -85,7 +85,7 @@ fn confirm<L: BlockLibrary, S: KeyframeStore>(
     hand: &mut Vec<Slip>,
     i: usize,
 ) -> Answer
-    ensures made { MadeOf L.BlockLibrary.meaning S.KeyframeStore.means (with_slip feed.Confirm hand.old.items i) (call.Confirm i) (desk player.now (page sheet.old) hand.old.items) result (desk player.now (page sheet.new) hand.new.items) }
+    ensures made { MadeOf L.meaning S.means (with_slip feed.Confirm hand.old.items i) (call.Confirm i) (desk player.now (page sheet.old) hand.old.items) result (desk player.now (page sheet.new) hand.new.items) }
     ensures room { Roomy hand.old hand.new }
 {
     if i >= hand.len() {
@@ -108,7 +108,7 @@ fn discard<L: BlockLibrary, S: KeyframeStore>(
     hand: &mut Vec<Slip>,
     i: usize,
 ) -> Answer
-    ensures made { MadeOf L.BlockLibrary.meaning S.KeyframeStore.means (with_slip feed.Drop hand.old.items i) (call.Drop i) (desk player.old (page sheet.old) hand.old.items) result (desk player.new (page sheet.new) hand.new.items) }
+    ensures made { MadeOf L.meaning S.means (with_slip feed.Drop hand.old.items i) (call.Drop i) (desk player.old (page sheet.old) hand.old.items) result (desk player.new (page sheet.new) hand.new.items) }
     ensures room { Roomy hand.old hand.new }
 {
     if i >= hand.len() {
@@ -133,7 +133,7 @@ pub(crate) fn perform<L: BlockLibrary, S: KeyframeStore>(
     call: Call,
 ) -> Answer
     requires { vec_len hand.old < vec_capacity hand.old }
-    ensures made { Made L.BlockLibrary.meaning S.KeyframeStore.means marks.now call (desk player.old (page sheet.old) hand.old.items) result (desk player.new (page sheet.new) hand.new.items) }
+    ensures made { Made L.meaning S.means marks.now call (desk player.old (page sheet.old) hand.old.items) result (desk player.new (page sheet.new) hand.new.items) }
     ensures room { Roomy hand.old hand.new }
 {
     match call {

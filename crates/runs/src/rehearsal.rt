@@ -41,7 +41,7 @@ pub fn rehearse<L: BlockLibrary, S: KeyframeStore>(
     answers: &mut Vec<Answer>,
     hand: EmptyHand,
 ) -> Result<(), Halt>
-    ensures { MatchResult result (λ _. Rehearses L.BlockLibrary.meaning S.KeyframeStore.means marks.now drawing player.old (page sheet.old) calls.now answers.old.items answers.new.items player.new (page sheet.new)) (λ halt. Halts (L.BlockLibrary.meaning player.old.library) drawing (page sheet.old) (Short answers.old hand.slips (length calls.now)) halt × (player.new ≡ player.old) × (sheet.new ≡ sheet.old) × (answers.new.items ≡ answers.old.items)) }
+    ensures { MatchResult result (λ _. Rehearses L.meaning S.means marks.now drawing player.old (page sheet.old) calls.now answers.old.items answers.new.items player.new (page sheet.new)) (λ halt. Halts (L.meaning player.old.library) drawing (page sheet.old) (Short answers.old hand.slips (length calls.now)) halt × (player.new ≡ player.old) × (sheet.new ≡ sheet.old) × (answers.new.items ≡ answers.old.items)) }
 {
     let EmptyHand { mut slips } = hand;
     match replay(player, drawing, sheet, &mut slips, marks, calls, answers) {

@@ -37,7 +37,7 @@ fn follow<L: BlockLibrary, S: KeyframeStore>(
 )
     requires memory { vec_len answers.old + length calls.now ≤ vec_capacity answers.old }
     requires room { vec_len hand.old + length calls.now ≤ vec_capacity hand.old }
-    ensures { Tells L.BlockLibrary.meaning S.KeyframeStore.means marks.now (desk player.old (page sheet.old) hand.old.items) calls.now answers.old.items answers.new.items (desk player.new (page sheet.new) hand.new.items) }
+    ensures { Tells L.meaning S.means marks.now (desk player.old (page sheet.old) hand.old.items) calls.now answers.old.items answers.new.items (desk player.new (page sheet.new) hand.new.items) }
 {
     for call in calls {
         answers.push_reserved(perform(player, sheet, hand, marks, *call));
@@ -54,7 +54,7 @@ pub fn run<L: BlockLibrary, S: KeyframeStore>(
     calls: &[Call],
     answers: &mut Vec<Answer>,
 ) -> Result<(), AllocError>
-    ensures { MatchResult result (λ _. Runs L.BlockLibrary.meaning S.KeyframeStore.means marks.now (desk player.old (page sheet.old) hand.old.items) calls.now answers.old.items answers.new.items (desk player.new (page sheet.new) hand.new.items)) (λ _. Short answers.old hand.old (length calls.now) × (player.new ≡ player.old) × (sheet.new ≡ sheet.old) × (hand.new.items ≡ hand.old.items) × (answers.new.items ≡ answers.old.items)) }
+    ensures { MatchResult result (λ _. Runs L.meaning S.means marks.now (desk player.old (page sheet.old) hand.old.items) calls.now answers.old.items answers.new.items (desk player.new (page sheet.new) hand.new.items)) (λ _. Short answers.old hand.old (length calls.now) × (player.new ≡ player.old) × (sheet.new ≡ sheet.old) × (hand.new.items ≡ hand.old.items) × (answers.new.items ≡ answers.old.items)) }
 {
     reserve(hand, answers, calls.len())?;
     follow(player, sheet, hand, marks, calls, answers);
@@ -72,7 +72,7 @@ pub fn replay<L: BlockLibrary, S: KeyframeStore>(
     calls: &[Call],
     answers: &mut Vec<Answer>,
 ) -> Result<(), Halt>
-    ensures { MatchResult result (λ _. Replays L.BlockLibrary.meaning S.KeyframeStore.means marks.now drawing (desk player.old (page sheet.old) hand.old.items) calls.now answers.old.items answers.new.items (desk player.new (page sheet.new) hand.new.items)) (λ halt. Halts (L.BlockLibrary.meaning player.old.library) drawing (page sheet.old) (Short answers.old hand.old (length calls.now)) halt × (player.new ≡ player.old) × (sheet.new ≡ sheet.old) × (hand.new.items ≡ hand.old.items) × (answers.new.items ≡ answers.old.items)) }
+    ensures { MatchResult result (λ _. Replays L.meaning S.means marks.now drawing (desk player.old (page sheet.old) hand.old.items) calls.now answers.old.items answers.new.items (desk player.new (page sheet.new) hand.new.items)) (λ halt. Halts (L.meaning player.old.library) drawing (page sheet.old) (Short answers.old hand.old (length calls.now)) halt × (player.new ≡ player.old) × (sheet.new ≡ sheet.old) × (hand.new.items ≡ hand.old.items) × (answers.new.items ≡ answers.old.items)) }
 {
     match reserve(hand, answers, calls.len()) {
         Ok(()) => (),
