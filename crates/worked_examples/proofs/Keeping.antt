@@ -12,22 +12,19 @@ use Rattle.player.specs.Play.{Head, packed, Plays, here, on}
 use Rattle.player.specs.Moves.{Starts, playhead, keyframe, beginning, Moves}
 use Rattle.player.specs.Calls.{Renews, with_frames}
 
--- room for 8 rows; that of cycle 32 is held, and no other
+-- the row of cycle 32 is held, and no other
 pub record Holds32 (f : Frames) : Type 0 where
   pub row : Row
   pub only : Only 32 row f
-  pub eight : f.room ≡ 8
 
--- room for 8 rows; nothing is held, and the row of cycle 32 would be taken
+-- nothing is held, and the row of cycle 32 would be taken
 pub record Takes32 (f : Frames) : Type 0 where
   pub emptied : Emptied f
   pub takes : f.takes 32 ≡ true
-  pub eight : f.room ≡ 8
 
-only_32 : (f : Frames) (row : Row) → Holds f 32 row → ((d : ℕ) → (d ≡ 32 → ⊥) → f.held d ≡ None) → f.room ≡ 8 → Holds32 f
-only_32 f row held none eight = record {
+only_32 : (f : Frames) (row : Row) → Holds f 32 row → ((d : ℕ) → (d ≡ 32 → ⊥) → f.held d ≡ None) → Holds32 f
+only_32 f row held none = record {
   row = row;
-  eight = eight;
   only = λ d. ⊎_elim
       (λ e. subst (λ c. f.held c ≡ cond (eqb c 32) (Some row) None) (sym e) held)
       (λ ne. none d ne ∙ sym (cond-false _ _ _ (ne_eqb d 32 ne)))
@@ -41,7 +38,7 @@ none_some : {o : Option Row} {row : Row} → o ≡ None → o ≡ Some row → �
 none_some e h = let z : ◌≡◌ {A = ℕ} 0 1 = cc in omega arith
 
 stored : (f g : Frames) (row : Row) → Takes32 f → Stored f 32 row g → Holds32 g
-stored f g row ready s = only_32 g row s.held_now (λ d ne. go d ne (g.held d) refl) (s.same_room ∙ ready.eight)
+stored f g row ready s = only_32 g row s.held_now (λ d ne. go d ne (g.held d) refl)
   where
     go : (d : ℕ) → (d ≡ 32 → ⊥) → (o : Option Row) → g.held d ≡ o → g.held d ≡ None
     go d ne None e = e
@@ -54,7 +51,6 @@ cut_32 : (f g : Frames) → Holds32 f → Cut f 32 g → Holds32 g
 cut_32 f g h c =
     only_32 g h.row (c.below 32 (omega arith) ∙ h.only 32)
     (λ d ne. ⊎_elim (c.above d) (λ low. c.below d low ∙ no_other h d ne) (cases_lt 32 d))
-    (c.same_room ∙ h.eight)
 
 -- a cycle that 32 does not divide
 undue : (f : Frames) (c : ℕ) → (c % 32 ≡ 0 → ⊥) → due f c ≡ false
@@ -120,13 +116,13 @@ module _ {L : Library} {D : Drawing} {rows : ℕ → List Value} where
         let worked : n ≡ 3 = omega (arith, m.reported) in
         (worked, subst Holds32 (sym (plays_quiet m.plays (λ c low high. omega arith))) kept)
 
--- changes, over stores that take the row of cycle 32 where they hold nothing and have room for 8
-module _ {S : Type 0} (store : S → Frames) (ready : (s : S) → Emptied (store s) → (store s).room ≡ 8 → Takes32 (store s)) {L : Library} {D : Drawing} {rows : ℕ → List Value} {h h' : Head} {n : ℕ} where
+-- changes, over stores that take the row of cycle 32 where they hold nothing
+module _ {S : Type 0} (store : S → Frames) (ready : (s : S) → Emptied (store s) → Takes32 (store s)) {L : Library} {D : Drawing} {rows : ℕ → List Value} {h h' : Head} {n : ℕ} where
   -- one at cycle 10 lets the row go, and it is put again
   pub renews_from_10 : Holds32 h.frames → h.at ≡ 57 → Renews store L D rows h 10 n h' → (n ≡ 57) × Holds32 h'.frames
   renews_from_10 kept at r =
       let again = r.again (omega (arith, at)) in
-      moves_from_0 (ready r.cut (cut_10 h.frames (store r.cut) kept r.is_cut) (r.is_cut.same_room ∙ kept.eight)) (λ e. absurd (both_ways false refl e))
+      moves_from_0 (ready r.cut (cut_10 h.frames (store r.cut) kept r.is_cut)) (λ e. absurd (both_ways false refl e))
       (subst (λ t. Moves L D rows (with_frames h (store r.cut)) false t n h') at again)
 
   -- one at cycle 32 leaves it

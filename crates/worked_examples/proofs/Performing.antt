@@ -1,7 +1,9 @@
 -- The demonstration's run, call by call.
-use Rattle.std.proofs.Common.{◌≡◌, ℕ, true, leb, List, [], ◌∷◌, length, Some, None, sym, refl, ap, ◌∙◌, subst, arith}
+use Rattle.std.proofs.Common.{◌≡◌, ℕ, leb, List, [], ◌∷◌, length, Some, None, sym, refl, ap, ◌∙◌, subst, arith}
 use Rattle.std.proofs.lemmas.Bool.{leb-true}
 use Rattle.values.specs.declared.packed.Cell.{Cell}
+use Rattle.blocks.specs.declared.library.BlockLibrary as BlockLibrary
+use Rattle.keyframes.specs.declared.store.KeyframeStore as KeyframeStore
 use Rattle.blocks.specs.Library.{Library}
 use Rattle.plant.specs.Plant.{plant}
 use Rattle.plant.specs.PlantLaws.{plant_sound}
@@ -35,22 +37,26 @@ use Rattle.worked_examples.specs.Demonstration.{whole, sheet, Reads, calls, answ
 use Rattle.worked_examples.proofs.Keeping.{Holds32, Takes32, moves_from_0, moves_from_32, moves_to_3, renews_from_10, renews_from_32}
 use Rattle.worked_examples.proofs.Figures.{walker, three_at_10, two_at_32, two, Shows, at_57, at_3, with_3, with_2}
 
-module _ {L S : Type 0} (library : L → Library) (store : S → Frames) (ready : (s : S) → Emptied (store s) → (store s).room ≡ 8 → Takes32 (store s)) (D : Drawing) (is : means D.draft ≡ counter) (cells : List Cell) (reads : Reads cells) where
-  abbrev pub head : Desk L S → Head
+-- a call that works k cycles by a move, where such a move works n
+told : {X : ℕ → Type 0} {f : Frames} {r : Answer} (n : ℕ) → ((k : ℕ) × (r ≡ answer.Worked k) × X k) → ((k : ℕ) → X k → (k ≡ n) × Holds32 f) → (r ≡ answer.Worked n) × Holds32 f
+told n (k, is, x) by = (is ∙ ap answer.Worked (by k x).0, (by k x).1)
+
+module _ {L S : Type 0} {l : BlockLibrary.Ghosts L} {s : KeyframeStore.Ghosts S} (library : L → Library) (store : S → Frames) (ready : (s : S) → Emptied (store s) → Takes32 (store s)) (D : Drawing) (is : means D.draft ≡ counter) (cells : List Cell) (reads : Reads cells) where
+  abbrev pub head : Desk L S l s → Head
   head d = head_of store d.player
 
   -- a player of the plant library on the counter's drawing, that agrees with a walker on the demonstration's sheet
-  pub record At (w : Walker) (d : Desk L S) : Type 0 where
+  pub record At (w : Walker) (d : Desk L S l s) : Type 0 where
     pub library_is : library d.player.library ≡ plant
     pub drawing_is : d.player.drawing ≡ D
     pub agrees : Agrees plant D (head d) d.page w
     pub ground_is : ground d.page ≡ sheet cells
 
-  pub page_is : {w : Walker} {d : Desk L S} → At w d → d.page ≡ walked (sheet cells) w
+  pub page_is : {w : Walker} {d : Desk L S l s} → At w d → d.page ≡ walked (sheet cells) w
   page_is {w} a = a.agrees.page ∙ ap (λ p. walked p w) a.ground_is
 
   -- an accepted call
-  made_done : (f : Feed) (c : Call) (w : Walker) (d e : Desk L S) (r : Answer) → judge (walked (sheet cells) w) 2 w f ≡ None → At w d → MadeOf library store (Some f) c d r e
+  made_done : (f : Feed) (c : Call) (w : Walker) (d e : Desk L S l s) (r : Answer) → judge (walked (sheet cells) w) 2 w f ≡ None → At w d → MadeOf library store (Some f) c d r e
       → Done store plant D (head d) d.page f r (head e) e.page × At (accepted w f) e
   made_done f c w d e r accepts a made =
       let p = d.page in
@@ -71,15 +77,11 @@ module _ {L S : Type 0} (library : L → Library) (store : S → Frames) (ready 
       )
 
   -- and the store holds the row of cycle 32 alone
-  pub record Stands (w : Walker) (d : Desk L S) : Type 0 where
+  pub record Stands (w : Walker) (d : Desk L S l s) : Type 0 where
     pub at : At w d
     pub keeps : Holds32 (head d).frames
 
-  -- a call that works k cycles by a move, where such a move works n
-  told : {X : ℕ → Type 0} {f : Frames} {r : Answer} (n : ℕ) → ((k : ℕ) × (r ≡ answer.Worked k) × X k) → ((k : ℕ) → X k → (k ≡ n) × Holds32 f) → (r ≡ answer.Worked n) × Holds32 f
-  told n (k, is, x) by = (is ∙ ap answer.Worked (by k x).0, (by k x).1)
-
-  module _ (marks : MarkTable) {d e : Desk L S} {r : Answer} where
+  module _ (marks : MarkTable) {d e : Desk L S l s} {r : Answer} where
     jumps : (t n : ℕ) (w : Walker) → judge (walked (sheet cells) w) 2 w (feed.Jump t) ≡ None → At w d
         → ((k : ℕ) → Moves plant D (rows_of d.page) (head d) (leb (head d).at t) t k (head e) → (k ≡ n) × Holds32 (head e).frames)
         → Made library store marks (call.Jump t) d r e → (r ≡ answer.Worked n) × Stands (accepted w (feed.Jump t)) e
@@ -116,11 +118,11 @@ module _ {L S : Type 0} (library : L → Library) (store : S → Frames) (ready 
         (subst (λ p. Finds plant (blocks_of D) (rows_of p) (head d).at (head d).shown) (page_is s.at) (record { states = (head d).states; walked = a.states; solved = a.shown })) in
         (after.0.2 ∙ ap answer.Value (figure (head d).shown found), record { at = after.1; keeps = subst (λ (h : Head). Holds32 h.frames) (sym after.0.0) s.keeps })
 
-  module _ (marks : MarkTable) {end : Desk L S} where
+  module _ (marks : MarkTable) {end : Desk L S l s} where
     -- one call, and then the others
-    follows : {d : Desk L S} {c : Call} {cs : List Call} {rs : List Answer} {r₀ : Answer} {rs₀ : List Answer} {Goal : Type 0} (w : Walker)
-        → ((e : Desk L S) (r : Answer) → Made library store marks c d r e → (r ≡ r₀) × Stands w e)
-        → ((e : Desk L S) → Stands w e → (rest : List Answer) → Chain library store marks e cs rest end → (rest ≡ rs₀) × Goal)
+    follows : {d : Desk L S l s} {c : Call} {cs : List Call} {rs : List Answer} {r₀ : Answer} {rs₀ : List Answer} {Goal : Type 0} (w : Walker)
+        → ((e : Desk L S l s) (r : Answer) → Made library store marks c d r e → (r ≡ r₀) × Stands w e)
+        → ((e : Desk L S l s) → Stands w e → (rest : List Answer) → Chain library store marks e cs rest end → (rest ≡ rs₀) × Goal)
         → Chain library store marks d (c ∷ cs) rs end → (rs ≡ r₀ ∷ rs₀) × Goal
     follows {r₀ = r₀} {rs₀ = rs₀} w step on (next {e = e} {a = r} {rs = rest} made chain) =
         let first = step e r made in
@@ -130,17 +132,17 @@ module _ {L S : Type 0} (library : L → Library) (store : S → Frames) (ready 
         (cc, others.1)
 
     -- a call that works, what the delay shows then, and the others
-    row : {d : Desk L S} {c : Call} {cs : List Call} {rs : List Answer} {k : ℕ} {rs₀ : List Answer} {Goal : Type 0} (ws : List Write) (t n : ℕ)
+    row : {d : Desk L S l s} {c : Call} {cs : List Call} {rs : List Answer} {k : ℕ} {rs₀ : List Answer} {Goal : Type 0} (ws : List Write) (t n : ℕ)
         → Shows D is cells reads ws t n
-        → ((e : Desk L S) (r : Answer) → Made library store marks c d r e → (r ≡ answer.Worked k) × Stands (walker ws t) e)
-        → ((e : Desk L S) → Stands (walker ws t) e → (rest : List Answer) → Chain library store marks e cs rest end → (rest ≡ rs₀) × Goal)
+        → ((e : Desk L S l s) (r : Answer) → Made library store marks c d r e → (r ≡ answer.Worked k) × Stands (walker ws t) e)
+        → ((e : Desk L S l s) → Stands (walker ws t) e → (rest : List Answer) → Chain library store marks e cs rest end → (rest ≡ rs₀) × Goal)
         → Chain library store marks d (c ∷ call.Show 0 ∷ cs) rs end → (rs ≡ answer.Worked k ∷ answer.Value (whole n) ∷ rs₀) × Goal
     row ws t n figure step on = follows (walker ws t) step (λ d s _. follows (walker ws t) (λ e r. shows marks ws t n figure s) on)
 
-    ended : {d : Desk L S} {w : Walker} {rs : List Answer} → Stands w d → Chain library store marks d [] rs end → (rs ≡ []) × Stands w end
+    ended : {d : Desk L S l s} {w : Walker} {rs : List Answer} → Stands w d → Chain library store marks d [] rs end → (rs ≡ []) × Stands w end
     ended s done = (refl, s)
 
-    pub performs : (d : Desk L S) (rs : List Answer) → At (walker [] 0) d → Takes32 (head d).frames
+    pub performs : (d : Desk L S l s) (rs : List Answer) → At (walker [] 0) d → Takes32 (head d).frames
         → Chain library store marks d calls rs end → (rs ≡ answers) × Stands (walker two_at_32 57) end
     performs d rs a new =
         row [] 57 45 (at_57 D is cells reads) (λ e r. jumps marks 57 57 (walker [] 0) refl a (λ k. moves_from_0 new (λ _. a.agrees.at)))

@@ -1,12 +1,14 @@
 -- The demonstration: its drawing, its sheet, a run of calls on the player just opened, and what they answer. Assumes nothing.
-use Rattle.std.specs.Prelude.{◌≡◌, ℕ, ◌<◌, cond, List, [], ◌∷◌, get_or, pos, nat_lt, slice_index_or}
+use Rattle.std.specs.Prelude.{◌≡◌, ℕ, ◌<◌, true, cond, List, [], ◌∷◌, get_or, pos, nat_lt, slice_index_or}
 use Rattle.values.specs.declared.scalar.Value.{Value}
 use Rattle.values.specs.declared.scalar.Value.TheVariants.{Whole}
 use Rattle.values.specs.declared.scalar.ValueType.TheVariants as T
 use Rattle.values.specs.declared.packed.Cell.{Cell}
 use Rattle.values.specs.declared.working.Row.{Row}
 use Rattle.values.specs.Values.{absent, idle}
+use Rattle.blocks.specs.declared.library.BlockLibrary as BlockLibrary
 use Rattle.blocks.specs.Library.{Library}
+use Rattle.plant.specs.contracts.plant.PlantBlockLibrary.TheImpl as Plants
 use Rattle.plant.specs.declared.plant.Plant.{Plant}
 use Rattle.plant.specs.Plant.{plant}
 use Rattle.draft.specs.Drafts.{means}
@@ -16,10 +18,11 @@ use Rattle.sheet.specs.declared.slip.Slip.{Slip}
 use Rattle.sheet.specs.Page.{Page, fresh, write_of}
 use Rattle.sheet.specs.Rows.{rows_of}
 use Rattle.marks.specs.declared.table.MarkTable.{MarkTable}
-use Rattle.keyframes.specs.declared.lent.Lent.{Lent}
-use Rattle.keyframes.specs.declared.table.TableStore.{TableStore}
-use Rattle.keyframes.specs.Frames.{Frames, Only}
-use Rattle.keyframes.specs.Tables.{table_frames}
+use Rattle.keyframes.specs.contracts.one.OneStoreKeyframeStore.TheImpl as Ones
+use Rattle.keyframes.specs.declared.one.OneStore.{OneStore}
+use Rattle.keyframes.specs.declared.store.KeyframeStore as KeyframeStore
+use Rattle.keyframes.specs.Frames.{Frames, Only, Emptied}
+use Rattle.keyframes.specs.Stores.{one_frames}
 use Rattle.player.specs.declared.answer.Answer.{Answer}
 use Rattle.player.specs.declared.answer.Answer.TheVariants as answer
 use Rattle.player.specs.declared.player.Player.{Player}
@@ -56,27 +59,32 @@ answers =
     ∷ answer.Worked 57 ∷ answer.Value (whole 47) ∷ answer.Worked 57 ∷ answer.Value (whole 45) ∷ answer.Worked 25 ∷ answer.Value (whole 46) ∷ []
 
 -- the answers; one write stands; and the row of cycle 32 is held alone, in which the delay has 37
-pub record Demonstrated {L S : Type 0} (store : S → Frames) (rs : List Answer) (end : Desk L S) : Type 0 where
+pub record Demonstrated {L S : Type 0} {l : BlockLibrary.Ghosts L} {s : KeyframeStore.Ghosts S} (store : S → Frames) (rs : List Answer) (end : Desk L S l s) : Type 0 where
   pub answered : rs ≡ answers
   pub standing : end.page.writes ≡ write_of 32 0 (whole 2) ∷ []
   pub row : Row
   pub held : Only 32 row (store end.player.store)
   pub delay : get_or (unpacked row) 0 idle ≡ record { value = whole 37; count = 0 }
 
--- the types of a player's library and store that the demonstration has: the plant library, and tables
+-- a store with room for a row: whenever it holds none, it takes the row of cycle 32
+abbrev pub TakesWhenEmpty : {S : Type 0} → (S → Frames) → Type 0
+TakesWhenEmpty {S} store = (s : S) → Emptied (store s) → (store s).takes 32 ≡ true
+
+-- the types of a player's library and store that the demonstration has: the plant library, and stores with room for a row
 pub record Meant {L S : Type 0} (library : L → Library) (store : S → Frames) : Type 0 where
   pub plants : (l : L) → library l ≡ plant
-  pub tables : (s : S) → (t : TableStore) × (store s ≡ table_frames t)
+  pub takes : TakesWhenEmpty store
 
--- A player whose store has room for 8 rows, and may have been used, is opened on a drawing of the counter and a sheet just made.
--- Then the calls, made in turn, give these answers and this end.
-abbrev pub Demonstrates : {L S : Type 0} → (L → Library) → (S → Frames) → Type 0
-Demonstrates {L} {S} library store =
+-- A player, whose store may have been used, is opened on a drawing of the counter and a sheet just made.
+-- Then the calls, made in turn, give these answers and this end. (A player's type names its bounds' ghost members, l and s; nothing
+-- is asked of them.)
+abbrev pub Demonstrates : {L S : Type 0} (l : BlockLibrary.Ghosts L) (s : KeyframeStore.Ghosts S) → (L → Library) → (S → Frames) → Type 0
+Demonstrates {L} {S} l s library store =
     (D : Drawing) → means D.draft ≡ counter → (cells : List Cell) → Reads cells
-    → (q q' : Player L S) → (store q.store).room ≡ 8 → Opens library store q D (sheet cells) q'
-    → (marks : MarkTable) (hand : List Slip) (rs : List Answer) (end : Desk L S)
+    → (q q' : Player L S l s) → Opens library store q D (sheet cells) q'
+    → (marks : MarkTable) (hand : List Slip) (rs : List Answer) (end : Desk L S l s)
     → Chain library store marks (desk q' (sheet cells) hand) calls rs end → Demonstrated store rs end
 
--- so it is with the library itself and a table that is lent
-abbrev pub LentDemonstrates : Type 0
-LentDemonstrates = Demonstrates {L = Plant} {S = Lent TableStore} (λ _. plant) (λ s. table_frames s.below.now)
+-- so it is with the library itself and the store that keeps one row
+abbrev pub OneDemonstrates : Type 0
+OneDemonstrates = Demonstrates {L = Plant} {S = OneStore} Plants.ghosts Ones.ghosts (λ _. plant) one_frames
