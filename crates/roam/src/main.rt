@@ -1,4 +1,6 @@
 // `play DRAWING SHEET [STORE] < SCRIPT`: loads a drawing, makes a sheet, opens a player and makes the calls of a script.
+#![tactic(auto)]
+
 mod arguments;
 mod shown;
 mod stop;
@@ -18,6 +20,7 @@ use runs::{EmptyHand, Halt, rehearse};
 use script::{Script, read_script};
 use sheet::{Columns, Sheet};
 use std::io::Read;
+use std::process::ExitCode;
 use std::{fs, io};
 use text::{SheetFile, read_sheet};
 use values::{Cell, PackedState, Row};
@@ -137,12 +140,12 @@ fn run(rt: &HostRuntime) -> Result<(), Stop> {
 }
 
 // An error prints its one line, and the program then ends with status 1.
-fn main(rt: HostRuntime) -> io::Result<()> {
+fn main(rt: HostRuntime) -> io::Result<ExitCode> {
     match run(&rt) {
-        Ok(()) => Ok(()),
+        Ok(()) => Ok(ExitCode::SUCCESS),
         Err(stop) => {
             println!(rt; "{stop}")?;
-            Err(io::Error::from(io::ErrorKind::Other))
+            Ok(ExitCode::FAILURE)
         }
     }
 }

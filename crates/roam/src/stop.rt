@@ -71,7 +71,7 @@ impl fmt::Display for Stop {
         match self {
             Stop::Usage => write!(
                 f,
-                "usage: play DRAWING SHEET [none | one | table:K] < SCRIPT"
+                "usage: roam DRAWING SHEET [none | one | table:K] < SCRIPT"
             ),
             Stop::CannotRead(path, e) => write!(f, "cannot read {path}: {e}"),
             Stop::Drawing(report) => {
