@@ -1,4 +1,6 @@
 // Runs the worked examples on the engine and prints their figures.
+#![tactic(auto)]
+
 mod files;
 mod kinds;
 mod playing;
