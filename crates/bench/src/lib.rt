@@ -1,5 +1,7 @@
 // Whole pieces of the engine's work behind numbers and bytes, for a program outside to time and to compare. Each
 // answers a checksum of what the engine gave, or `REFUSED` where the engine refuses what it is given.
+#![tactic(auto)]
+
 mod checksum;
 mod dice;
 mod exports;
