@@ -1,4 +1,4 @@
-//! Random cases: all that `play` is given.
+//! Random cases: all that `roam` is given.
 
 mod drafts;
 mod files;

@@ -1,4 +1,4 @@
-//! Runs the built `play` on cases and judges what it prints.
+//! Runs the built `roam` on cases and judges what it prints.
 
 use crate::cases::{self, Case};
 use crate::engine::{self, outcome};
@@ -27,7 +27,7 @@ const ANSWERS: [&str; 9] = [
     "out of memory",
 ];
 
-/// Whether `play` prints on each case what the engine predicts, bit by bit.
+/// Whether `roam` prints on each case what the engine predicts, bit by bit.
 pub fn compare(play: &str, seed: u64, count: u64) -> io::Result<bool> {
     let mut tally = Tally::default();
     let bench = Bench::new(play)?;
@@ -71,7 +71,7 @@ fn tell_first_difference(expected: &str, printed: &[u8]) {
     }
 }
 
-/// Whether `play` answers every noise, and ends.
+/// Whether `roam` answers every noise, and ends.
 pub fn noise(play: &str, seed: u64, count: u64) -> io::Result<bool> {
     let mut tally = Tally::default();
     let bench = Bench::new(play)?;
@@ -93,7 +93,7 @@ pub fn noise(play: &str, seed: u64, count: u64) -> io::Result<bool> {
     Ok(true)
 }
 
-/// What a run of `play` left.
+/// What a run of `roam` left.
 struct Printed {
     output: Vec<u8>,
     /// The number of bytes on standard error, where nothing belongs.
@@ -114,7 +114,7 @@ impl Printed {
     }
 }
 
-/// A folder in which `play` is run, removed at the end.
+/// A folder in which `roam` is run, removed at the end.
 struct Bench {
     play: PathBuf,
     folder: PathBuf,

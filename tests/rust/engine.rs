@@ -1,4 +1,4 @@
-//! The engine: what `play` answers to its arguments, files and script.
+//! The engine: what `roam` answers to its arguments, files and script.
 
 pub mod draft;
 pub mod drawing;

@@ -1,4 +1,4 @@
-//! An engine written from the rules alone, and a driver that holds the built `play` against it.
+//! An engine written from the rules alone, and a driver that holds the built `roam` against it.
 //!
 //!     compare PLAY SEED COUNT              random cases, every printed line compared
 //!     noise PLAY SEED COUNT                random bytes, each must get an answer
