@@ -33,11 +33,11 @@ pub enum Fault {
     LibraryDiffers,
 }
 
-impl Fault {
-    pub fn report(self) -> Report
-        ensures { result ≡ report_of self }
-    {
-        match self {
+impl From<Fault> for Report {
+    ghost from_gives = { λ fault report. report ≡ report_of fault };
+
+    fn from(fault: Fault) -> Report {
+        match fault {
             Fault::CycleBeyond(p) => at(21, p),
             Fault::ColumnBeyond(p) => at(22, p),
             Fault::WrongType(p) => at(23, p),
@@ -57,6 +57,7 @@ impl Fault {
     }
 }
 
+// Each layer has makers of its reports, which say its number and the shape of its places once.
 fn at(number: u8, p: Place) -> Report
     ensures { result ≡ record { number = number; layer = 3; place = (p.cycle, p.column) } }
 {
