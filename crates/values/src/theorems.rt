@@ -1,7 +1,7 @@
 // Packing loses nothing.
 ghost use Rattle.values.specs.Packing.{NanPacks, ValuesPack, CellsUnpack, StatesPack, StatesUnpack, RowsPack, RowsUnpack};
 
-pub fn packing_holds() -> u8
+pub fn packing_holds()
     ensures nan_packs { NanPacks }
     ensures values_pack { ValuesPack }
     ensures cells_unpack { CellsUnpack }
@@ -9,6 +9,4 @@ pub fn packing_holds() -> u8
     ensures states_unpack { StatesUnpack }
     ensures rows_pack { RowsPack }
     ensures rows_unpack { RowsUnpack }
-{
-    0
-}
+{}
