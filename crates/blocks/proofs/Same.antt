@@ -1,4 +1,5 @@
-use Rattle.std.proofs.Common.{rules, ◌≡◌, true, arith, ℕ, Bool, false, ◌&&◌, refl, sym, ◌∙◌, ap}
+-- Signatures that `==` finds the same are the same. Assumes nothing.
+use Rattle.std.proofs.Common.{rules, ◌≡◌, true, arith, ℕ, Bool, false, ◌&&◌, refl, ◌∙◌, ap}
 use Rattle.blocks.specs.contracts.library.TypesPartialEq.TheImpl as types
 use Rattle.blocks.specs.contracts.library.SignaturePartialEq.TheImpl as signatures
 use Rattle.values.specs.contracts.scalar.ValueTypePartialEq.TheImpl as kinds
@@ -7,7 +8,6 @@ use Rattle.std.specs.contracts.prelude.BoolPartialEq.TheImpl as bools
 use Rattle.blocks.specs.declared.library.Types.{Types}
 use Rattle.blocks.specs.declared.library.Types.TheVariants.{Empty, One, Two, Three, Four}
 use Rattle.blocks.specs.declared.library.Signature.{Signature}
-use Rattle.blocks.proofs.library.Signature.same.Goals as goal
 
 both : (s t : Bool) → (s && t) ≡ true → (s ≡ true) × (t ≡ true)
 both true t q = (refl, q)
@@ -52,13 +52,6 @@ types_true (Four a b c d) (Four e f g h) q =
     let w = both _ _ all in let x = both _ _ w.1 in let y = both _ _ x.1 in
     let i = kind_true a e w.0 in let j = kind_true b f x.0 in let k = kind_true c g y.0 in let l = kind_true d h y.1 in cc
 
-types_refl : (a : Types) → types.ghosts.eq a a ≡ true
-types_refl Empty = search rules
-types_refl (One a) = search rules
-types_refl (Two a b) = search rules
-types_refl (Three a b c) = search rules
-types_refl (Four a b c d) = search rules
-
 abbrev made : Types → Types → ValueType → Bool → Signature
 made i p o d = record { inputs = i; params = p; output = o; delaying = d }
 
@@ -67,14 +60,8 @@ joined a b i p o d =
     ap (λ x. made x a.params a.output a.delaying) i ∙ ap (λ x. made b.inputs x a.output a.delaying) p
     ∙ ap (λ x. made b.inputs b.params x a.delaying) o ∙ ap (made b.inputs b.params b.output) d
 
-same_true : (a b : Signature) → signatures.ghosts.eq a b ≡ true → a ≡ b
+pub same_true : (a b : Signature) → signatures.ghosts.eq a b ≡ true → a ≡ b
 same_true a b q =
     let all : (types.ghosts.eq a.inputs b.inputs && (types.ghosts.eq a.params b.params && (kinds.ghosts.eq a.output b.output && bools.ghosts.eq a.delaying b.delaying))) ≡ true = q in
     let w = both _ _ all in let x = both _ _ w.1 in let y = both _ _ x.1 in
     joined a b (types_true a.inputs b.inputs w.0) (types_true a.params b.params x.0) (kind_true a.output b.output y.0) (bool_true a.delaying b.delaying y.1)
-
-same_refl : (a : Signature) → signatures.ghosts.eq a a ≡ true
-same_refl a = let i = types_refl a.inputs in let p = types_refl a.params in search rules
-
-pub returns : goal.returns
-returns c = (λ e. same_true c.args.self c.args.other (sym c.eq.ensures ∙ e), λ e. c.eq.ensures ∙ ap (λ (b : Signature). signatures.ghosts.eq c.args.self b) (sym e) ∙ same_refl c.args.self)
