@@ -3,7 +3,8 @@ use Rattle.std.proofs.Common.{◌≡◌, ℕ, ◌+◌, ◌*◌, ◌^◌, ◌<◌
 use Rattle.std.proofs.lemmas.List.{at_drop_more}
 use Rattle.std.proofs.lemmas.Bool.{cond-true, eq-eqb}
 use Rattle.std.proofs.lemmas.Bool.Decides.{nat_tests}
-use Rattle.reals.specs.Digits.{digit_of, more, with_digit, pattern_of}
+use Rattle.hexadecimal.specs.Digits.{digit_of}
+use Rattle.reals.specs.Digits.{more, with_digit, pattern_of}
 
 pub none_stays : (cs : List ℕ) → fold more None cs ≡ None
 none_stays [] = refl

@@ -1,9 +1,6 @@
 -- Eight hexadecimal digits as a number. Assumes nothing.
-use Rattle.std.specs.Prelude.{ℕ, ◌+◌, ◌-◌, ◌*◌, cond, ◌&&◌, List, length, Some, None, fold, Option, ◌==◌, nat_le}
-
--- 0 to 9 and A to F, by their codes
-abbrev pub digit_of : ℕ → Option ℕ
-digit_of c = cond (nat_le 48 c && nat_le c 57) (Some (c - 48)) (cond (nat_le 65 c && nat_le c 70) (Some (c - 55)) None)
+use Rattle.std.specs.Prelude.{ℕ, ◌+◌, ◌*◌, cond, List, length, Some, None, fold, Option, ◌==◌}
+use Rattle.hexadecimal.specs.Digits.{digit_of}
 
 -- a number with one digit more, none where either is none
 abbrev pub with_digit : Option ℕ → Option ℕ → Option ℕ

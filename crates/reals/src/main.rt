@@ -9,13 +9,14 @@ use rows::{Row, read_row};
 use std::fs;
 use values::{Value, pattern};
 
-fn run(rt: &HostRuntime) -> anyhow::Result<()> {
-    let text = fs::read_to_string(rt, "reals.in")?;
+fn main(rt: HostRuntime) -> anyhow::Result<()> {
+    let text = fs::read_to_string(&rt, "reals.in")?;
     for line in text.as_str().lines() {
         let words: Vec<&str> = line.split(' ').collect(rt.alloc())?;
         let Some(row) = read_row(words.as_slice()) else {
             return Err(anyhow!("not a row"));
         };
+        // as the table has them: a bare number or a pattern
         match row.shown() {
             Value::Binary(b) => println!(rt; "{b}")?,
             Value::Whole(n) => println!(rt; "{n}")?,
@@ -26,8 +27,4 @@ fn run(rt: &HostRuntime) -> anyhow::Result<()> {
         }
     }
     Ok(())
-}
-
-fn main(rt: HostRuntime) -> anyhow::Result<()> {
-    run(&rt)
 }

@@ -1,4 +1,4 @@
-use Rattle.reals.proofs.run.Given as goal
+use Rattle.reals.proofs.main.Given as goal
 
 abbrev pub invariant-loop-line : goal.invariant-loop-line
 invariant-loop-line l = (goal.iterator-loop-line).can_next l.line-iterator × (goal.iterator-loop-line).is_finite l.line-iterator
