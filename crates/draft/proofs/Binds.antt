@@ -7,6 +7,10 @@ pub bind_bind : {A B C : Type 0} (r : Result A ReadFault) (k : A → Result B Re
 bind_bind (Ok a) k l = refl
 bind_bind (Err e) k l = refl
 
+pub bind_ok_id : {A : Type 0} (r : Result A ReadFault) → bind r Ok ≡ r
+bind_ok_id (Ok a) = refl
+bind_ok_id (Err e) = refl
+
 pub bind_ok : {A B : Type 0} (r : Result A ReadFault) (k : A → Result B ReadFault) (b : B) → bind r k ≡ Ok b → (a : A) × (r ≡ Ok a) × (k a ≡ Ok b)
 bind_ok (Ok a) k b h = (a, refl, h)
 bind_ok (Err e) k b h = let z : ◌≡◌ {A = ℕ} 0 1 = cc in absurd (omega arith)

@@ -7,7 +7,7 @@ use Rattle.values.specs.declared.packed.Cell.TheVariants as Cells
 use Rattle.values.specs.Packed.{value_of, cell_of}
 use Rattle.values.proofs.Patterns.{usual_back, finite_canonical}
 use Rattle.draft.specs.declared.fault.ReadFault.{ReadFault}
-use Rattle.draft.specs.Format.{Format, bind, via, read_all, size_all, ReadsArray, ReadsArrayAs}
+use Rattle.draft.specs.Format.{Format, bind, via, read_all, size_all}
 use Rattle.draft.specs.File.{cell_format, param_format, finite}
 use Rattle.draft.proofs.Exact.{Exact, via_exact}
 use Rattle.draft.proofs.Binds.{bind_bind}
@@ -35,12 +35,10 @@ same_size p (Cells.Binary b) = refl
 same_size p (Cells.Whole z) = refl
 same_size p (Cells.Real v) = refl
 
-pub values_all : (most : ℕ) (d : Cell) (n : ℕ) (file : List ℕ) (p : ℕ) (out : List Cell) (q : ℕ) → ReadsArray cell_format most d n file p (Ok (out, q)) → ReadsArrayAs param_format value_of most d n file p (Ok (out, q))
-values_all most d n file p out q h = (
-  read_all_via value_of cell_of cell_format same_size n file p ∙ ap (λ r. bind r (λ xs. Ok (map value_of xs))) h.0,
-  h.1 ∙ ap (λ k. p + k) (sym (size_all_via value_of cell_of cell_format same_size p (take n out))),
-  h.2,
-  h.3,
+pub values_all : (n : ℕ) (file : List ℕ) (p q : ℕ) (cs : List Cell) → read_all cell_format n file p ≡ Ok cs → q ≡ p + size_all cell_format p cs → (read_all param_format n file p ≡ Ok (map value_of cs)) × (q ≡ p + size_all param_format p (map value_of cs))
+values_all n file p q cs h e = (
+  read_all_via value_of cell_of cell_format same_size n file p ∙ ap (λ r. bind r (λ xs. Ok (map value_of xs))) h,
+  e ∙ ap (λ k. p + k) (sym (size_all_via value_of cell_of cell_format same_size p cs)),
 )
 
 pub values_fail : (n : ℕ) (file : List ℕ) (p : ℕ) (e : ReadFault) → read_all cell_format n file p ≡ Err e → read_all param_format n file p ≡ Err e

@@ -4,8 +4,9 @@ use Rattle.values.specs.declared.scalar.Value.TheVariants as Values
 use Rattle.draft.specs.declared.source.Source.TheVariants as Sources
 use Rattle.draft.specs.declared.draft.Block.{Block}
 use Rattle.draft.specs.declared.draft.Draft.{Draft}
-use Rattle.draft.specs.declared.fault.ReadError.{ReadError}
-use Rattle.draft.specs.declared.fault.ReadError.TheVariants.{Fault, NoMemory}
+use Rattle.draft.specs.declared.fault.ReadFault.{ReadFault}
+use Rattle.faults.specs.declared.failure.Failure.{Failure}
+use Rattle.faults.specs.declared.failure.Failure.TheVariants.{Fault, NoMemory}
 use Rattle.draft.specs.File.{BlockOf, DraftOf, read_file, FileOf, Writable}
 use Rattle.draft.specs.Refused.{FirstFault}
 
@@ -16,7 +17,7 @@ abbrev pub means : Draft → DraftOf
 means d = record { columns = vec_items d.columns; blocks = map block_means (vec_items d.blocks) }
 
 -- why no draft is read of the bytes; memory may be wanting at any file
-abbrev pub Unread : List ℕ → ReadError → Type 0
+abbrev pub Unread : List ℕ → Failure ReadFault → Type 0
 Unread bytes (Fault e) = read_file bytes ≡ Err e
 Unread bytes NoMemory = Unit {0}
 
@@ -25,7 +26,7 @@ abbrev pub TheDraft : List ℕ → DraftOf → Type 0
 TheDraft bytes d = FileOf d bytes × ((x : DraftOf) → Writable x → FileOf x bytes → x ≡ d)
 
 -- the bytes are no draft's file, by the first fault; memory may be wanting at any file
-abbrev pub NoDraft : List ℕ → ReadError → Type 0
+abbrev pub NoDraft : List ℕ → Failure ReadFault → Type 0
 NoDraft bytes (Fault e) = FirstFault bytes e
 NoDraft bytes NoMemory = Unit {0}
 

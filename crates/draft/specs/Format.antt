@@ -1,5 +1,5 @@
 -- A format, both ways: the bits of a value, and what is read at a bit of a file.
-use Rattle.std.specs.Prelude.{◌≡◌, ℕ, zero, suc, ◌+◌, ◌-◌, ◌^◌, ◌<◌, Bool, true, cond, List, [], ◌∷◌, ◌++◌, map, length, take, drop, replicate, Ok, Err, Result, MatchResult, nat_le}
+use Rattle.std.specs.Prelude.{◌≡◌, ℕ, zero, suc, ◌+◌, ◌-◌, ◌^◌, ◌<◌, Bool, true, cond, List, [], ◌∷◌, ◌++◌, length, take, drop, replicate, Ok, Err, Result, MatchResult, nat_le}
 use Rattle.std.specs.List.{AllByRecursion}
 use Rattle.draft.specs.declared.fault.ReadFault.{ReadFault}
 use Rattle.draft.specs.declared.fault.ReadFault.TheVariants.{CutShort}
@@ -72,20 +72,13 @@ via to from F = record {
   read = λ file p. bind (F.read file p) (λ a. Ok (to a));
 }
 
--- r is what is read at p, told by f, with the bit after it
-abbrev pub ReadsOn : {A X : Type 0} → Format A → (X → A) → List ℕ → ℕ → Result (X × ℕ) ReadFault → Type 0
-ReadsOn F f file p r = MatchResult r (λ x. (F.read file p ≡ Ok (f x.0)) × (x.1 ≡ p + F.size p (f x.0))) (λ e. F.read file p ≡ Err e)
+-- r is what is read at p, told by f, and q the bit after it
+abbrev pub ReadsOn : {A X : Type 0} → Format A → (X → A) → List ℕ → ℕ → Result X ReadFault → ℕ → Type 0
+ReadsOn F f file p r q = MatchResult r (λ x. (F.read file p ≡ Ok (f x)) × (q ≡ p + F.size p (f x))) (λ e. F.read file p ≡ Err e)
 
--- r is the n values at p, in an array whose other places hold d, with the bit after them
-abbrev pub ReadsArray : {A : Type 0} → Format A → ℕ → A → ℕ → List ℕ → ℕ → Result (List A × ℕ) ReadFault → Type 0
-ReadsArray F cap d n file p r =
+-- r is the n values at p, in an array whose other places hold d, and q the bit after them
+abbrev pub ReadsArray : {A : Type 0} → Format A → ℕ → A → ℕ → List ℕ → ℕ → Result (List A) ReadFault → ℕ → Type 0
+ReadsArray F cap d n file p r q =
     MatchResult r
-    (λ x. (read_all F n file p ≡ Ok (take n x.0)) × (x.1 ≡ p + size_all F p (take n x.0)) × (drop n x.0 ≡ replicate (cap - n) d) × (length x.0 ≡ cap))
-    (λ e. read_all F n file p ≡ Err e)
-
--- r is the n values at p, told by f, in an array whose other places hold d, with the bit after them
-abbrev pub ReadsArrayAs : {A X : Type 0} → Format A → (X → A) → ℕ → X → ℕ → List ℕ → ℕ → Result (List X × ℕ) ReadFault → Type 0
-ReadsArrayAs F f cap d n file p r =
-    MatchResult r
-    (λ x. (read_all F n file p ≡ Ok (map f (take n x.0))) × (x.1 ≡ p + size_all F p (map f (take n x.0))) × (drop n x.0 ≡ replicate (cap - n) d) × (length x.0 ≡ cap))
+    (λ x. (read_all F n file p ≡ Ok (take n x)) × (q ≡ p + size_all F p (take n x)) × (drop n x ≡ replicate (cap - n) d) × (length x ≡ cap))
     (λ e. read_all F n file p ≡ Err e)

@@ -1,8 +1,8 @@
 // Why a file is not read.
 ghost use Rattle.std.specs.Prelude.{◌≡◌};
-ghost use Rattle.draft.specs.declared.fault.ReadError.TheVariants.{Fault, NoMemory};
+ghost use Rattle.faults.specs.declared.failure.Failure.TheVariants.{Fault};
 
-use std::alloc::{AllocError, AllocFailed};
+use faults::Failure;
 
 // Why a file is no draft, with the first bit of the field that shows it.
 #[derive(Clone, Copy, PartialEq, Eq, Debug)]
@@ -18,32 +18,12 @@ pub enum ReadFault {
 }
 
 // Why no draft was read.
-#[derive(Clone, Copy, PartialEq, Eq, Debug)]
-pub enum ReadError {
-    Fault(ReadFault),
-    NoMemory,
-}
+pub type ReadError = Failure<ReadFault>;
 
-impl From<ReadFault> for ReadError {
+impl From<ReadFault> for Failure<ReadFault> {
     ghost from_gives = { λ e r. r ≡ Fault e };
 
     fn from(fault: ReadFault) -> ReadError {
-        ReadError::Fault(fault)
-    }
-}
-
-impl From<AllocError> for ReadError {
-    ghost from_gives = { λ _ r. r ≡ NoMemory };
-
-    fn from(_e: AllocError) -> ReadError {
-        ReadError::NoMemory
-    }
-}
-
-impl<T: Drop> From<AllocFailed<T>> for ReadError {
-    ghost from_gives = { λ _ r. r ≡ NoMemory };
-
-    fn from(_e: AllocFailed<T>) -> ReadError {
-        ReadError::NoMemory
+        Failure::Fault(fault)
     }
 }

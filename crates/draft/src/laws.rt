@@ -4,12 +4,10 @@ ghost use Rattle.draft.specs.File.{ReadsWhatIsWritten, WritesWhatIsRead, OneFile
 ghost use Rattle.draft.specs.Refused.{RefusalsTellTheFirstFault};
 
 // Files and drafts match both ways, every draft has a file, and what is no draft's file is refused by its first fault.
-pub fn files_and_drafts_match() -> u8
+pub fn files_and_drafts_match()
     ensures read { ReadsWhatIsWritten }
     ensures write { WritesWhatIsRead }
     ensures one { OneFile }
     ensures first { RefusalsTellTheFirstFault }
     ensures every { EveryDraftFits }
-{
-    0
-}
+{}

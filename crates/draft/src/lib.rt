@@ -4,8 +4,10 @@
 mod access;
 mod assemble;
 mod bitfield;
+mod cursor;
 mod draft;
 mod fault;
+mod field;
 mod laws;
 mod reader;
 mod reading;

@@ -1,6 +1,6 @@
 // Reads a draft from its file.
 ghost use Rattle.std.specs.Prelude.{◌≡◌, ◌≤◌, ◌++◌, map, IfOk, Ok, MatchResult, OnOk};
-ghost use Rattle.draft.specs.declared.fault.ReadError.TheVariants.{NoMemory};
+ghost use Rattle.faults.specs.declared.failure.Failure.TheVariants.{NoMemory};
 ghost use Rattle.draft.specs.Drafts.{block_means, means, Unread, TheDraft, NoDraft};
 ghost use Rattle.draft.specs.File.{block_format, read_file};
 ghost use Rattle.draft.specs.Records.{block_of, columns_of};
@@ -14,12 +14,13 @@ use crate::source::Source;
 use std::alloc::{AllocError, Global};
 use values::{Value, ValueType};
 
+// The meant part of a record, whose places are fields.
 fn sources_of(heap: Global, block: &BlockRecord) -> Result<Vec<Source>, AllocError>
     requires { block.now.inputs ≤ 4 }
     ensures { IfOk result (λ v. v.items ≡ (block_of block.now).sources) }
 {
     let sources = [block.source0, block.source1, block.source2, block.source3];
-    Vec::from_slice(heap, &sources[0..block.inputs as usize])
+    Vec::from_slice(heap, &sources[0..usize::from(block.inputs)])
 }
 
 fn params_of(heap: Global, block: &BlockRecord) -> Result<Vec<Value>, AllocError>
@@ -27,12 +28,12 @@ fn params_of(heap: Global, block: &BlockRecord) -> Result<Vec<Value>, AllocError
     ensures { IfOk result (λ v. v.items ≡ (block_of block.now).params) }
 {
     let params = [
-        block.param0.value(),
-        block.param1.value(),
-        block.param2.value(),
-        block.param3.value(),
+        Value::from(block.param0),
+        Value::from(block.param1),
+        Value::from(block.param2),
+        Value::from(block.param3),
     ];
-    Vec::from_slice(heap, &params[0..block.params as usize])
+    Vec::from_slice(heap, &params[0..usize::from(block.params)])
 }
 
 // The block of a record.
@@ -66,25 +67,29 @@ fn add_columns(columns: &mut Vec<ValueType>, types: &ColumnsRecord) -> Result<()
         types.type6,
         types.type7,
     ];
-    columns.extend_from_slice(&all[0..types.count as usize])
+    columns.extend_from_slice(&all[0..usize::from(types.count)])
 }
 
-// Adds what a record tells of.
-fn add_record(
-    heap: Global,
-    columns: &mut Vec<ValueType>,
-    blocks: &mut Vec<Block>,
-    part: Record,
-) -> Result<(), ReadError>
-    requires { Fit part }
-    ensures { MatchResult result (λ _. (columns.new.items ≡ columns.old.items ++ columns_in part.entry) × (map block_means blocks.new.items ≡ map block_means blocks.old.items ++ blocks_in part.entry)) (λ e. e ≡ NoMemory) }
-{
-    match part {
-        Record::Header(_) => Ok(()),
-        Record::Columns(types) => Ok(add_columns(columns, &types)?),
-        Record::Block(block) => {
-            let block = block_from(heap, &block)?;
-            Ok(blocks.push(block)?)
+// What the records so far tell of.
+#[derive(Drop)]
+struct Gathered {
+    columns: Vec<ValueType>,
+    blocks: Vec<Block>,
+}
+
+impl Gathered {
+    // Adds what a record tells of.
+    fn add(&mut self, heap: Global, part: Record) -> Result<(), ReadError>
+        requires { Fit part }
+        ensures { MatchResult result (λ _. (self.new.columns.items ≡ self.old.columns.items ++ columns_in part.entry) × (map block_means self.new.blocks.items ≡ map block_means self.old.blocks.items ++ blocks_in part.entry)) (λ e. e ≡ NoMemory) }
+    {
+        match part {
+            Record::Header(_) => Ok(()),
+            Record::Columns(types) => Ok(add_columns(&mut self.columns, &types)?),
+            Record::Block(block) => {
+                let block = block_from(heap, &block)?;
+                Ok(self.blocks.push(block)?)
+            }
         }
     }
 }
@@ -95,10 +100,13 @@ pub fn read_draft(heap: Global, file: &[u8]) -> Result<Draft, ReadError>
     ensures draft { MatchResult result (λ d. TheDraft file.now (means d)) (NoDraft file.now) }
 {
     let mut reader = Reader::new(file);
-    let mut columns = Vec::new(heap);
-    let mut blocks = Vec::new(heap);
+    let mut gathered = Gathered {
+        columns: Vec::new(heap),
+        blocks: Vec::new(heap),
+    };
     while let Some(part) = reader.next()? {
-        add_record(heap, &mut columns, &mut blocks, part)?;
+        gathered.add(heap, part)?;
     }
+    let Gathered { columns, blocks } = gathered;
     Ok(Draft { columns, blocks })
 }

@@ -5,6 +5,7 @@ ghost use Rattle.draft.specs.Faults.{read_report};
 use crate::fault::ReadFault;
 use faults::Report;
 
+// Layer 1: its number and the shape of its places, said once.
 fn by_file(number: u8, bit: usize) -> Report
     ensures { result ≡ record { number = number; layer = 1; place = (bit, 0) } }
 {
@@ -15,11 +16,11 @@ fn by_file(number: u8, bit: usize) -> Report
     }
 }
 
-impl ReadFault {
-    pub fn report(self) -> Report
-        ensures { result ≡ read_report self }
-    {
-        match self {
+impl From<ReadFault> for Report {
+    ghost from_gives = { λ fault report. report ≡ read_report fault };
+
+    fn from(fault: ReadFault) -> Report {
+        match fault {
             ReadFault::CutShort(bit) => by_file(1, bit),
             ReadFault::Edition(bit) => by_file(2, bit),
             ReadFault::Count(bit) => by_file(3, bit),

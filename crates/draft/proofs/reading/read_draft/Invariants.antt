@@ -5,8 +5,8 @@ use Rattle.draft.specs.File.{read_file}
 use Rattle.draft.proofs.Steps.{rest, left}
 use Rattle.draft.proofs.reading.read_draft.Given as goal
 
-abbrev pub invariant-loop-blocks : goal.invariant-loop-blocks
-invariant-loop-blocks l = (read_file l.file ≡ rest (bits_of l.file) l.reader.stage l.reader.at (vec_items l.columns) (map block_means (vec_items l.blocks))) × (l.reader.file.now ≡ l.file)
+abbrev pub invariant-loop-gathered : goal.invariant-loop-gathered
+invariant-loop-gathered l = (read_file l.file ≡ rest (bits_of l.file) l.reader.stage l.reader.cursor.at (vec_items l.gathered.columns) (map block_means (vec_items l.gathered.blocks))) × (l.reader.cursor.file.now ≡ l.file)
 
-abbrev pub decreases-loop-blocks : goal.decreases-loop-blocks
-decreases-loop-blocks l = left l.reader.stage
+abbrev pub decreases-loop-gathered : goal.decreases-loop-gathered
+decreases-loop-gathered l = left l.reader.stage

@@ -5,10 +5,10 @@ use Rattle.draft.proofs.reader.Reader.next.Goals as goal
 
 pub returns-then-self : goal.returns-then-self
 returns-then-self c =
-    let more : suc c.args.self.now.at ≤ length (bits_of c.args.self.now.file.now) = omega (arith, length_bits_of c.args.self.now.file.now) in
+    let more : suc c.args.self.now.cursor.at ≤ length (bits_of c.args.self.now.cursor.file.now) = omega (arith, length_bits_of c.args.self.now.cursor.file.now) in
     search rules
 
 pub returns-else-self : goal.returns-else-self
 returns-else-self c =
-    let none : length (bits_of c.args.self.now.file.now) ≤ c.args.self.now.at = omega (arith, length_bits_of c.args.self.now.file.now) in
+    let none : length (bits_of c.args.self.now.cursor.file.now) ≤ c.args.self.now.cursor.at = omega (arith, length_bits_of c.args.self.now.cursor.file.now) in
     search rules
