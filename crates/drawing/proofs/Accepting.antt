@@ -7,8 +7,8 @@ use Rattle.draft.specs.declared.draft.Draft.{Draft}
 use Rattle.drawing.specs.declared.drawing.Drawing.{Drawing}
 use Rattle.drawing.specs.declared.drawing.Rejected.{Rejected}
 use Rattle.drawing.specs.declared.fault.CheckFault.{CheckFault}
-use Rattle.drawing.specs.declared.fault.CheckError.{CheckError}
-use Rattle.drawing.specs.declared.fault.CheckError.TheVariants.{Fault, NoMemory}
+use Rattle.faults.specs.declared.failure.Failure.{Failure}
+use Rattle.faults.specs.declared.failure.Failure.TheVariants.{Fault, NoMemory}
 use Rattle.blocks.specs.Library.{Library}
 use Rattle.blocks.specs.declared.library.Signature.{Signature}
 use Rattle.drawing.specs.Accept.{Accepts, Rejects}
@@ -45,7 +45,7 @@ module _ (f : Library) (cs cs' : List ValueType) (bs bs' : List Block) (ss ss' :
     pub wired_moved : Wired (net bs' ss')
     wired_moved = subst₂ (λ b c. Wired (net b c)) (sym q) (sym r) (wired f cs bs ss fit joined)
 
-    pub refuses_loop : (e : CheckError) → Unordered (net bs' ss') e → Refuses f cs bs e
+    pub refuses_loop : (e : Failure CheckFault) → Unordered (net bs' ss') e → Refuses f cs bs e
     refuses_loop NoMemory h = tt
     refuses_loop (Fault e) h =
         let z = subst₂ (λ b c. Unordered (net b c) (Fault e)) q r h in

@@ -3,6 +3,7 @@ use Rattle.std.proofs.Common.{◌≡◌, ℕ, zero, suc, ◌+◌, ◌<◌, ◌�
 use borrow.Author.Tests.{both_ways}
 use Rattle.std.specs.List.{slice_get}
 use Rattle.std.proofs.lemmas.List.{length-map, length_push}
+pub use Rattle.std.proofs.lemmas.Option.{slice_get_within as nth_in}
 use Rattle.values.specs.declared.scalar.ValueType.{ValueType}
 use Rattle.blocks.specs.declared.library.Signature.{Signature}
 use Rattle.draft.specs.declared.draft.Block.{Block}
@@ -76,11 +77,6 @@ fits_passed f k s h = record {
   agree = λ q _ _. ap (λ l. slice_get l q) h.params;
   lawful = λ _. h.lawful;
 }
-
-pub nth_in : {X : Type 0} (xs : List X) (i : ℕ) (x : X) → slice_get xs i ≡ Some x → i < length xs
-nth_in [] i x e = let z : ◌≡◌ {A = ℕ} 0 1 = cc in absurd (omega arith)
-nth_in (y ∷ ys) zero x e = omega arith
-nth_in (y ∷ ys) (suc i) x e = omega (arith, nth_in ys i x e)
 
 pub nth_there : {X : Type 0} (xs : List X) (i : ℕ) → i < length xs → (x : X) × (slice_get xs i ≡ Some x)
 nth_there [] i h = absurd (omega arith)

@@ -14,8 +14,8 @@ use Rattle.draft.specs.declared.source.Source.TheVariants.{Column, Block as Outp
 use Rattle.draft.specs.declared.draft.Block.{Block}
 use Rattle.drawing.specs.declared.fault.CheckFault.{CheckFault}
 use Rattle.drawing.specs.declared.fault.CheckFault.TheVariants.{UnknownKind, InputCount, ParameterCount, ParameterType, Unlawful, SourceAbsent, SourceType, Loop}
-use Rattle.drawing.specs.declared.fault.CheckError.{CheckError}
-use Rattle.drawing.specs.declared.fault.CheckError.TheVariants.{Fault, NoMemory}
+use Rattle.faults.specs.declared.failure.Failure.{Failure}
+use Rattle.faults.specs.declared.failure.Failure.TheVariants.{Fault, NoMemory}
 use Rattle.drawing.specs.Accept.{Unsuited}
 use Rattle.drawing.specs.Faults.{Signs, Absent, Wrong, Refuses, SuitedIsRight}
 use Rattle.drawing.specs.Members.{In}
@@ -199,6 +199,6 @@ module _ (L : Library) (cs : List ValueType) (bs : List Block) (suited : Suits L
 pub suited_is_right : SuitedIsRight
 suited_is_right = right
 
-pub unsuited : (L : Library) (cs : List ValueType) (bs : List Block) (e : CheckError) → Refuses L cs bs e → Unsuited L cs bs e
+pub unsuited : (L : Library) (cs : List ValueType) (bs : List Block) (e : Failure CheckFault) → Refuses L cs bs e → Unsuited L cs bs e
 unsuited L cs bs (Fault e) h = λ s. right L cs bs s e h.wrong
 unsuited L cs bs NoMemory h = tt

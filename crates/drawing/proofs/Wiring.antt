@@ -1,8 +1,10 @@
 -- Laws of `feeders` and `net`.
-use Rattle.std.proofs.Common.{◌≡◌, ℕ, zero, suc, ◌<◌, Bool, false, List, [], ◌∷◌, map, length, get_or, Some, vec_items, Decides, sym, refl, ap, ◌∙◌, subst, ⊎_elim, arith}
+use Rattle.std.proofs.Common.{◌≡◌, ℕ, zero, suc, ◌<◌, Bool, true, false, List, [], ◌∷◌, map, length, get_or, Some, vec_items, Decides, sym, refl, ap, ◌∙◌, subst, ⊎_elim, arith}
 use borrow.Author.Tests.{both_ways}
-use Rattle.std.specs.List.{ContainsAt as Has, slice_get}
+use Rattle.std.specs.List.{AllWithin, ContainsAt as Has, HoldsAt, slice_get}
+use Rattle.std.specs.Bool.{MatchBool}
 use Rattle.drawing.proofs.Types.{nth_map}
+pub use Rattle.std.proofs.lemmas.Option.{get_or_from_slice_get as from_nth}
 use Rattle.std.proofs.lemmas.Bool.Decides.{same_from_decides}
 use Rattle.std.proofs.lemmas.List.{get_or_default, get_or-map}
 use Rattle.draft.specs.declared.source.Source.{Source}
@@ -33,10 +35,32 @@ feeder_place (Output b ∷ ss) u h =
     ⊎_elim (λ e. (0, omega arith, λ d. ap Output (sym e))) (λ t. let p = feeder_place ss u t in
     (suc p.0, omega (arith, p.1), p.2)) (in_cases u b (feeders ss) h)
 
-pub from_nth : {X : Type 0} (xs : List X) (i : ℕ) (x d : X) → slice_get xs i ≡ Some x → get_or xs i d ≡ x
-from_nth [] i x d e = let z : ◌≡◌ {A = ℕ} 0 1 = cc in absurd (omega arith)
-from_nth (y ∷ ys) zero x d e = cc
-from_nth (y ∷ ys) (suc i) x d e = from_nth ys i x d e
+-- a source that is no block, or one in the order
+abbrev pub Placed : List ℕ → Source → Type 0
+Placed order (Column c) = Unit {0}
+Placed order (Output u) = In u order
+
+-- a source that is a block not in the order
+abbrev pub Missing : List ℕ → Source → Type 0
+Missing order (Column c) = ⊥
+Missing order (Output u) = among u order ≡ false
+
+missing_source : (order : List ℕ) (ss : List Source) (k : ℕ) (x : Source) → k < length ss → get_or ss k (Column 0) ≡ x → Missing order x
+    → ((u : ℕ) → In u (feeders ss) → In u order) → ⊥
+missing_source order ss k (Column c) lt e h all = h
+missing_source order ss k (Output u) lt e h all = both_ways _ h (all u (feeder_in ss k u (Column 0) lt e))
+
+pub all_sources : (order : List ℕ) (ss : List Source) (r : Bool)
+    → MatchBool r (AllWithin (Placed order) ss 0 (length ss)) ((k : ℕ) × (k < length ss) × HoldsAt (Missing order) ss k)
+    → Decides r ((u : ℕ) → In u (feeders ss) → In u order)
+all_sources order ss true h = (
+  λ _ u m. let p = feeder_place ss u m in subst (Placed order) (p.2 (Column 0)) (h p.0 (Column 0) (omega arith) p.1),
+  λ _. refl,
+)
+all_sources order ss false h = (
+  λ e. absurd (both_ways _ refl e),
+  λ all. absurd (missing_source order ss h.0 _ h.1 refl (h.2 (Column 0)) all),
+)
 
 module _ (bs : List Block) (ss : List Signature) (v : ℕ) where
   pub sources_at : (b : Block) → v < length bs → (net bs ss).sources v ≡ feeders (vec_items (get_or bs v b).sources)

@@ -7,8 +7,8 @@ use Rattle.draft.specs.declared.draft.Draft.{Draft}
 use Rattle.drawing.specs.declared.drawing.Drawing.{Drawing}
 use Rattle.drawing.specs.declared.drawing.Rejected.{Rejected}
 use Rattle.drawing.specs.declared.fault.CheckFault.{CheckFault}
-use Rattle.drawing.specs.declared.fault.CheckError.{CheckError}
-use Rattle.drawing.specs.declared.fault.CheckError.TheVariants.{Fault, NoMemory}
+use Rattle.faults.specs.declared.failure.Failure.{Failure}
+use Rattle.faults.specs.declared.failure.Failure.TheVariants.{Fault, NoMemory}
 use Rattle.drawing.specs.Net.{Placing}
 use Rattle.drawing.specs.Wiring.{net}
 use Rattle.drawing.specs.Sound.{Sound}
@@ -26,7 +26,7 @@ pub record Accepts (L : Library) (d : Draft) (r : Drawing) : Type 0 where
   pub keeps : Sound (vec_items d.columns) (vec_items d.blocks) (vec_items r.signatures) (vec_items r.order)
 
 -- a draft with a fault does not suit the library; memory may be wanting at any draft
-abbrev pub Unsuited : Library → List ValueType → List Block → CheckError → Type 0
+abbrev pub Unsuited : Library → List ValueType → List Block → Failure CheckFault → Type 0
 Unsuited L cs bs (Fault e) = Suits L cs bs → ⊥
 Unsuited L cs bs NoMemory = Unit {0}
 

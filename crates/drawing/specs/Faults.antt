@@ -11,8 +11,8 @@ use Rattle.draft.specs.declared.source.Source.TheVariants.{Column, Block as Outp
 use Rattle.draft.specs.declared.draft.Block.{Block}
 use Rattle.drawing.specs.declared.fault.CheckFault.{CheckFault}
 use Rattle.drawing.specs.declared.fault.CheckFault.TheVariants.{UnknownKind, InputCount, ParameterCount, ParameterType, Unlawful, SourceAbsent, SourceType, Loop}
-use Rattle.drawing.specs.declared.fault.CheckError.{CheckError}
-use Rattle.drawing.specs.declared.fault.CheckError.TheVariants.{Fault, NoMemory}
+use Rattle.faults.specs.declared.failure.Failure.{Failure}
+use Rattle.faults.specs.declared.failure.Failure.TheVariants.{Fault, NoMemory}
 use Rattle.drawing.specs.Net.{Looped}
 use Rattle.drawing.specs.Wiring.{net}
 use Rattle.drawing.specs.Sound.{gives}
@@ -84,7 +84,7 @@ pub record First (L : Library) (cs : List ValueType) (bs : List Block) (e : Chec
   pub earliest : (d : CheckFault) → Lower (turn d) (turn e) → Wrong L cs bs d → ⊥
 
 -- a refusal: the fault that is found first; memory may be wanting at any draft
-abbrev pub Refuses : Library → List ValueType → List Block → CheckError → Type 0
+abbrev pub Refuses : Library → List ValueType → List Block → Failure CheckFault → Type 0
 Refuses L cs bs (Fault e) = First L cs bs e
 Refuses L cs bs NoMemory = Unit {0}
 

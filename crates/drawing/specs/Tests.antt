@@ -10,8 +10,8 @@ use Rattle.draft.specs.declared.source.Source.{Source}
 use Rattle.draft.specs.declared.draft.Block.{Block}
 use Rattle.drawing.specs.declared.fault.CheckFault.{CheckFault}
 use Rattle.drawing.specs.declared.fault.CheckFault.TheVariants.{UnknownKind, InputCount, ParameterCount, ParameterType, Unlawful, SourceAbsent, SourceType, Loop}
-use Rattle.drawing.specs.declared.fault.CheckError.{CheckError}
-use Rattle.drawing.specs.declared.fault.CheckError.TheVariants.{Fault, NoMemory}
+use Rattle.faults.specs.declared.failure.Failure.{Failure}
+use Rattle.faults.specs.declared.failure.Failure.TheVariants.{Fault, NoMemory}
 use Rattle.drawing.specs.Net.{Net, FirstLooped}
 use Rattle.drawing.specs.Sound.{Sound, gives, Joined}
 use Rattle.drawing.specs.Suits.{Suits, AllFit}
@@ -82,7 +82,7 @@ pub record InputFault (cs : List ValueType) (bs : List Block) (ss : List Signatu
   pub fault : SourceFault cs ss block (vec_items here.sources) (listed sign.inputs) e
 
 -- why there is no order
-abbrev pub Unordered : Net → CheckError → Type 0
+abbrev pub Unordered : Net → Failure CheckFault → Type 0
 Unordered g (Fault e) = (v : ℕ) × (e ≡ Loop v) × FirstLooped g v
 Unordered g NoMemory = Unit {0}
 

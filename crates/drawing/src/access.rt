@@ -40,10 +40,8 @@ impl Drawing {
     }
 
     // Every drawing keeps right types by its signatures, and the order that placing the lowest block first gives.
-    pub fn keeps(&self) -> u8
+    pub fn keeps(&self)
         ensures { Sound self.now.draft.columns.items self.now.draft.blocks.items
             self.now.signatures.items self.now.order.items }
-    {
-        0
-    }
+    {}
 }

@@ -11,23 +11,21 @@ ghost use Rattle.drawing.specs.Tests.{Misfit, BlockFault, SourceFault, Counted, 
 
 use crate::drawing::{Drawing, Plan, Rejected};
 use crate::fault::{CheckError, CheckFault};
-use crate::order::arrange;
+use crate::order::Signed;
 use blocks::{BlockLibrary, Signature, Types};
 use draft::{Block, Draft, Source};
 use std::alloc::Global;
 use values::{Value, ValueType};
 
 // The first parameter whose type is not the one that is asked.
-fn misfit(params: &[Value], types: Types) -> Option<usize>
-    requires { length params.now ≡ length (listed types) }
-    ensures { MatchOption result (map type_of params.now ≡ listed types) (Misfit params.now (listed types)) }
+fn misfit(params: &[Value], types: &Types) -> Option<usize>
+    requires { length params.now ≡ length (listed types.now) }
+    ensures { MatchOption result (map type_of params.now ≡ listed types.now) (Misfit params.now (listed types.now)) }
 {
-    for p in 0..params.len() {
-        if !types.has(p, params[p].value_type()) {
-            return Some(p);
-        }
-    }
-    None
+    params
+        .iter()
+        .enumerate()
+        .position(|(p, v)| !types.has(p, v.value_type()))
 }
 
 // The tests of one block by itself.
@@ -52,7 +50,7 @@ fn check_block<L: BlockLibrary>(
     if params.len() != s.params.len() {
         return Err(CheckFault::ParameterCount(b));
     }
-    if let Some(p) = misfit(params, s.params) {
+    if let Some(p) = misfit(params, &s.params) {
         return Err(CheckFault::ParameterType(b, p));
     }
     if !library.lawful(kind, params) {
@@ -78,33 +76,14 @@ fn sign_all<L: BlockLibrary>(
     Ok(signatures)
 }
 
-// The type that a source gives, where it is there.
+// The type that a source gives, where it is there. Columns and signatures are two parameters here and below: the draft has
+// the ones, and the check has just made the others.
 fn source_type(columns: &[ValueType], signatures: &[Signature], source: Source) -> Option<ValueType>
     ensures { result ≡ gives columns.now signatures.now source }
 {
     match source {
-        Source::Column(c) => column_type(columns, c as usize),
-        Source::Block(b) => output_type(signatures, b as usize),
-    }
-}
-
-fn column_type(columns: &[ValueType], c: usize) -> Option<ValueType>
-    ensures { result ≡ slice_get columns.now c }
-{
-    if c < columns.len() {
-        Some(columns[c])
-    } else {
-        None
-    }
-}
-
-fn output_type(signatures: &[Signature], b: usize) -> Option<ValueType>
-    ensures { result ≡ slice_get (map (λ s. s.output) signatures.now) b }
-{
-    if b < signatures.len() {
-        Some(signatures[b].output)
-    } else {
-        None
+        Source::Column(c) => columns.get(usize::from(c)).copied(),
+        Source::Block(b) => signatures.get(usize::from(b)).map(|s| s.output),
     }
 }
 
@@ -121,8 +100,8 @@ fn check_sources(
         (λ _. Joined columns.now signatures.now sources.now (listed inputs))
         (SourceFault columns.now signatures.now b sources.now (listed inputs)) }
 {
-    for i in 0..sources.len() {
-        let Some(t) = source_type(columns, signatures, sources[i]) else {
+    for (i, source) in sources.iter().enumerate() {
+        let Some(t) = source_type(columns, signatures, *source) else {
             return Err(CheckFault::SourceAbsent(b, i));
         };
         if !inputs.has(i, t) {
@@ -133,25 +112,14 @@ fn check_sources(
 }
 
 // The second round: the sources of all inputs.
-fn check_inputs(
-    columns: &[ValueType],
-    blocks: &[Block],
-    signatures: &[Signature],
-) -> Result<(), CheckFault>
-    requires signed { length signatures.now ≡ length blocks.now }
-    requires counted { Counted blocks.now signatures.now }
+fn check_inputs(columns: &[ValueType], signed: &Signed) -> Result<(), CheckFault>
+    requires { Counted signed.now.blocks.now signed.now.signatures.now }
     ensures { MatchResult result
-        (λ _. JoinedBefore columns.now blocks.now signatures.now (length blocks.now))
-        (InputFault columns.now blocks.now signatures.now) }
+        (λ _. JoinedBefore columns.now signed.now.blocks.now signed.now.signatures.now (length signed.now.blocks.now))
+        (InputFault columns.now signed.now.blocks.now signed.now.signatures.now) }
 {
-    for b in 0..blocks.len() {
-        check_sources(
-            columns,
-            signatures,
-            b,
-            blocks[b].sources(),
-            signatures[b].inputs,
-        )?;
+    for (b, (block, s)) in signed.blocks.iter().zip(signed.signatures).enumerate() {
+        check_sources(columns, signed.signatures, b, block.sources(), s.inputs)?;
     }
     Ok(())
 }
@@ -169,8 +137,12 @@ fn judge<L: BlockLibrary>(
         (Refuses (L.meaning library.now) columns.now blocks.now) }
 {
     let signatures = sign_all(heap, library, blocks)?;
-    check_inputs(columns, blocks, &signatures)?;
-    let order = arrange(heap, blocks, &signatures)?;
+    let signed = Signed {
+        blocks,
+        signatures: &signatures,
+    };
+    check_inputs(columns, &signed)?;
+    let order = signed.arrange(heap)?;
     Ok(Plan { signatures, order })
 }
 
@@ -180,6 +152,7 @@ pub fn check<L: BlockLibrary>(heap: Global, library: &L, draft: Draft) -> Result
         (Accepts (L.meaning library.now) draft)
         (Rejects (L.meaning library.now) draft) }
 {
+    // no `map_err`: the draft goes into both answers
     match judge(heap, library, draft.columns(), draft.blocks()) {
         Ok(plan) => Ok(Drawing {
             draft,

@@ -5,7 +5,8 @@ use crate::fault::CheckError;
 use blocks::Signature;
 use draft::Draft;
 
-// The draft, with the signatures of its blocks and the order in which they are worked.
+// The draft, with the signatures of its blocks and the order in which they are worked. The signatures are copied in, beside
+// the draft's blocks, since a draft is what its file says and no more.
 #[derive(Drop)]
 pub struct Drawing {
     pub(crate) draft: Draft,
@@ -14,7 +15,7 @@ pub struct Drawing {
     ghost sound: { ∥ Sound draft.columns.items draft.blocks.items signatures.items order.items ∥₁ },
 }
 
-// What the check works out.
+// What the check works out: a drawing but for the draft, which a refusal hands back.
 #[derive(Drop)]
 pub(crate) struct Plan {
     pub(crate) signatures: Vec<Signature>,

@@ -1,8 +1,8 @@
 // Why a drawing is refused.
 ghost use Rattle.std.specs.Prelude.{◌≡◌};
-ghost use Rattle.drawing.specs.declared.fault.CheckError.TheVariants.{Fault, NoMemory};
+ghost use Rattle.faults.specs.declared.failure.Failure.TheVariants.{Fault};
 
-use std::alloc::{AllocError, AllocFailed};
+use faults::Failure;
 
 // What is wrong with a draft: the block, and the input or the parameter.
 #[derive(Clone, Copy, Debug, PartialEq, Eq)]
@@ -18,32 +18,12 @@ pub enum CheckFault {
 }
 
 // Why no drawing was made.
-#[derive(Clone, Copy, Debug, PartialEq, Eq)]
-pub enum CheckError {
-    Fault(CheckFault),
-    NoMemory,
-}
+pub type CheckError = Failure<CheckFault>;
 
-impl From<CheckFault> for CheckError {
+impl From<CheckFault> for Failure<CheckFault> {
     ghost from_gives = { λ e r. r ≡ Fault e };
 
     fn from(fault: CheckFault) -> CheckError {
-        CheckError::Fault(fault)
-    }
-}
-
-impl From<AllocError> for CheckError {
-    ghost from_gives = { λ _ r. r ≡ NoMemory };
-
-    fn from(_e: AllocError) -> CheckError {
-        CheckError::NoMemory
-    }
-}
-
-impl<T: Drop> From<AllocFailed<T>> for CheckError {
-    ghost from_gives = { λ _ r. r ≡ NoMemory };
-
-    fn from(_e: AllocFailed<T>) -> CheckError {
-        CheckError::NoMemory
+        Failure::Fault(fault)
     }
 }

@@ -3,23 +3,17 @@ ghost use Rattle.drawing.specs.Cycle.{CycleLaw};
 ghost use Rattle.drawing.specs.Faults.{OneFirst, SuitedIsRight, SuitsOrFirst};
 
 // A draft has at most one first fault.
-pub fn one_first() -> u8
+pub fn one_first()
     ensures { OneFirst }
-{
-    0
-}
+{}
 
 // Nothing is wrong with a draft that suits the library, and one that does not suit has a first fault.
-pub fn suits_or_first() -> u8
+pub fn suits_or_first()
     ensures right { SuitedIsRight }
     ensures either { SuitsOrFirst }
-{
-    0
-}
+{}
 
 // A cycle has one solution, and working in any order that respects the connections finds it.
-pub fn cycle_stands() -> u8
+pub fn cycle_stands()
     ensures { CycleLaw }
-{
-    0
-}
+{}

@@ -10,6 +10,15 @@ use blocks::Signature;
 use draft::{Block, Source};
 use std::alloc::{AllocError, Global};
 
+// Blocks, with a signature for each.
+#[derive(Clone, Copy)]
+pub(crate) struct Signed<'a> {
+    pub(crate) blocks: &'a [Block],
+    pub(crate) signatures: &'a [Signature],
+    ghost signed: { length signatures.now ≡ length blocks.now },
+}
+
+// `contains` in the word of the specs, said once for the three that ask.
 fn placed(order: &[usize], v: usize) -> bool
     ensures { result ≡ among v order.now }
 {
@@ -20,14 +29,10 @@ fn placed(order: &[usize], v: usize) -> bool
 fn all_placed(sources: &[Source], order: &[usize]) -> bool
     ensures { Decides result ((u : ℕ) → In u (feeders sources.now) → In u order.now) }
 {
-    for s in sources {
-        if let Source::Block(u) = *s {
-            if !placed(order, u as usize) {
-                return false;
-            }
-        }
-    }
-    true
+    sources.iter().all(|s| match *s {
+        Source::Column(_) => true,
+        Source::Block(u) => placed(order, usize::from(u)),
+    })
 }
 
 // Whether the sources of a block allow it to be placed: it delays, or they are all placed.
@@ -38,77 +43,58 @@ fn allowed(signature: Signature, sources: &[Source], order: &[usize]) -> bool
     signature.delaying || all_placed(sources, order)
 }
 
-// Whether block `v` is not placed yet, and its sources allow it.
-fn ready(blocks: &[Block], signatures: &[Signature], order: &[usize], v: usize) -> bool
-    requires { (v < length blocks.now) × (length signatures.now ≡ length blocks.now) }
-    ensures { Decides result (Ready (net blocks.now signatures.now) order.now v) }
-{
-    !placed(order, v) && allowed(signatures[v], blocks[v].sources(), order)
-}
-
-// The lowest block that can be placed.
-fn next(blocks: &[Block], signatures: &[Signature], order: &[usize]) -> Option<usize>
-    requires { length signatures.now ≡ length blocks.now }
-    ensures { MatchOption result
-        (Stopped (net blocks.now signatures.now) order.now)
-        (Next (net blocks.now signatures.now) order.now) }
-{
-    for v in 0..blocks.len() {
-        if ready(blocks, signatures, order, v) {
-            return Some(v);
-        }
-    }
-    None
-}
-
-// Places blocks until none can be placed.
-fn place_all(
-    heap: Global,
-    blocks: &[Block],
-    signatures: &[Signature],
-) -> Result<Vec<usize>, AllocError>
-    requires { length signatures.now ≡ length blocks.now }
-    ensures { IfOk result (λ o.
-        Placing (net blocks.now signatures.now) o.items
-        × Stopped (net blocks.now signatures.now) o.items) }
-{
-    let mut order = Vec::new(heap);
-    while let Some(v) = next(blocks, signatures, &order) {
-        order.push(v)?;
-    }
-    Ok(order)
-}
-
 // The lowest block that is not placed.
 fn unplaced(order: &[usize], blocks: usize) -> Option<usize>
     ensures { MatchOption result
         ((u : ℕ) → u < blocks → In u order.now)
         (λ v. (v < blocks) × (among v order.now ≡ false) × ((u : ℕ) → u < v → In u order.now)) }
 {
-    for v in 0..blocks {
-        if !placed(order, v) {
-            return Some(v);
-        }
-    }
-    None
+    (0..blocks).find(|v| !placed(order, *v))
 }
 
-// Places every block, the lowest that can be placed first, or tells the lowest block on a closed chain of blocks
-// that do not delay, or fed from one through such blocks.
-pub(crate) fn arrange(
-    heap: Global,
-    blocks: &[Block],
-    signatures: &[Signature],
-) -> Result<Vec<usize>, CheckError>
-    requires signed { length signatures.now ≡ length blocks.now }
-    requires wired { Wired (net blocks.now signatures.now) }
-    ensures { MatchResult result
-        (λ o. Arranged (net blocks.now signatures.now) o.items)
-        (Unordered (net blocks.now signatures.now)) }
-{
-    let order = place_all(heap, blocks, signatures)?;
-    match unplaced(&order, blocks.len()) {
-        Some(v) => Err(CheckError::Fault(CheckFault::Loop(v))),
-        None => Ok(order),
+impl<'a> Signed<'a> {
+    // Whether block `v` is not placed yet, and its sources allow it.
+    fn ready(&self, order: &[usize], v: usize) -> bool
+        requires { v < length self.now.blocks.now }
+        ensures { Decides result (Ready (net self.now.blocks.now self.now.signatures.now) order.now v) }
+    {
+        !placed(order, v) && allowed(self.signatures[v], self.blocks[v].sources(), order)
+    }
+
+    // The lowest block that can be placed.
+    fn next(&self, order: &[usize]) -> Option<usize>
+        ensures { MatchOption result
+            (Stopped (net self.now.blocks.now self.now.signatures.now) order.now)
+            (Next (net self.now.blocks.now self.now.signatures.now) order.now) }
+    {
+        (0..self.blocks.len()).find(|v| self.ready(order, *v))
+    }
+
+    // Places blocks until none can be placed.
+    fn place_all(&self, heap: Global) -> Result<Vec<usize>, AllocError>
+        ensures { IfOk result (λ o.
+            Placing (net self.now.blocks.now self.now.signatures.now) o.items
+            × Stopped (net self.now.blocks.now self.now.signatures.now) o.items) }
+    {
+        let mut order = Vec::new(heap);
+        while let Some(v) = self.next(&order) {
+            order.push(v)?;
+        }
+        Ok(order)
+    }
+
+    // Places every block, the lowest that can be placed first, or tells the lowest block on a closed chain of blocks
+    // that do not delay, or fed from one through such blocks.
+    pub(crate) fn arrange(&self, heap: Global) -> Result<Vec<usize>, CheckError>
+        requires { Wired (net self.now.blocks.now self.now.signatures.now) }
+        ensures { MatchResult result
+            (λ o. Arranged (net self.now.blocks.now self.now.signatures.now) o.items)
+            (Unordered (net self.now.blocks.now self.now.signatures.now)) }
+    {
+        let order = self.place_all(heap)?;
+        match unplaced(&order, self.blocks.len()) {
+            Some(v) => Err(CheckError::Fault(CheckFault::Loop(v))),
+            None => Ok(order),
+        }
     }
 }

@@ -5,6 +5,7 @@ ghost use Rattle.drawing.specs.Faults.{check_report};
 use crate::fault::CheckFault;
 use faults::Report;
 
+// Layer 2: its number and the shape of its places, said once.
 fn by_draughtsman(number: u8, block: usize, part: usize) -> Report
     ensures { result ≡ record { number = number; layer = 2; place = (block, part) } }
 {
@@ -15,11 +16,11 @@ fn by_draughtsman(number: u8, block: usize, part: usize) -> Report
     }
 }
 
-impl CheckFault {
-    pub fn report(self) -> Report
-        ensures { result ≡ check_report self }
-    {
-        match self {
+impl From<CheckFault> for Report {
+    ghost from_gives = { λ fault report. report ≡ check_report fault };
+
+    fn from(fault: CheckFault) -> Report {
+        match fault {
             CheckFault::UnknownKind(b) => by_draughtsman(11, b, 0),
             CheckFault::InputCount(b) => by_draughtsman(12, b, 0),
             CheckFault::ParameterCount(b) => by_draughtsman(13, b, 0),

@@ -1,27 +1,30 @@
 // Checks the drawings of a table against the plant library, and says what the check makes of each.
 #![tactic(auto)]
 
-mod hex;
-
-use crate::hex::bytes_of;
-use draft::{ReadError, read_draft};
-use drawing::{CheckError, check};
-use faults::Report;
+use draft::read_draft;
+use drawing::check;
+use faults::{Failure, Report};
+use hexadecimal::bytes_of;
 use plant::Plant;
 use std::alloc::AllocError;
 use std::{fs, io};
 
-fn show_refusal(rt: &HostRuntime, label: &str, report: Report) -> io::Result<()> {
-    let number = report.number;
-    let layer = report.layer;
-    let (block, part) = report.place;
-    println!(rt; "{label} refused {number} layer {layer} at {block} {part}")
+fn show_failure<F: Drop>(rt: &HostRuntime, label: &str, failure: Failure<F>) -> io::Result<()>
+where
+    Report: From<F>,
+{
+    match failure {
+        Failure::Fault(fault) => {
+            let report = Report::from(fault);
+            println!(rt; "{label} {report}")
+        }
+        Failure::NoMemory => Err(io::Error::from(AllocError)),
+    }
 }
 
 fn show_order(rt: &HostRuntime, label: &str, order: &[usize]) -> io::Result<()> {
     print!(rt; "{label} order")?;
     for v in order {
-        let v = *v;
         print!(rt; " {v}")?;
     }
     println!(rt; "")
@@ -30,15 +33,11 @@ fn show_order(rt: &HostRuntime, label: &str, order: &[usize]) -> io::Result<()> 
 fn show_case(rt: &HostRuntime, label: &str, file: &[u8]) -> io::Result<()> {
     let draft = match read_draft(rt.alloc(), file) {
         Ok(draft) => draft,
-        Err(ReadError::Fault(fault)) => return show_refusal(rt, label, fault.report()),
-        Err(ReadError::NoMemory) => return Err(io::Error::from(AllocError)),
+        Err(error) => return show_failure(rt, label, error),
     };
     match check(rt.alloc(), &Plant, draft) {
         Ok(drawing) => show_order(rt, label, drawing.order()),
-        Err(rejected) => match rejected.error {
-            CheckError::Fault(fault) => show_refusal(rt, label, fault.report()),
-            CheckError::NoMemory => Err(io::Error::from(AllocError)),
-        },
+        Err(rejected) => show_failure(rt, label, rejected.error),
     }
 }
 

@@ -23,20 +23,23 @@ joins g c = joined_moved _ _ _ _ _ _ refl refl c.deref.ensures.value c.in_ok-che
 -- what the third round gave
 orders : (g : given.Over) (c : In_ok-order g)
     → Arranged (net c.args.blocks.now (vec_items c.in_ok-signatures.signatures)) (vec_items c.in_ok-order.order)
-orders g c = arranged_moved _ _ _ _ _ refl c.deref-2.ensures.value c.in_ok-order.ensures
+orders g c = arranged_moved _ _ _ _ _ refl c.deref.ensures.value c.in_ok-order.ensures
 
 pub returns-in_err-signatures : goal.returns-in_err-signatures
 returns-in_err-signatures g c =
     let p = err_from_is_err_and c.from_residual.result c.from_residual.ensures.1 in
     rw (p.1, p.2) (c.in_err-signatures.ensures c.args.columns.now)
 
+pub invariant_of-signed : goal.invariant_of-signed
+invariant_of-signed g c = record {
+  signed = signed_moved (g.L.BlockLibrary.meaning c.args.library.now) c.args.columns.now _ _ _ _ _ refl refl c.deref.ensures.value
+      (fits g (goal.at.invariant_of-signed g c).In_ok-signatures);
+}
+
 pub check_inputs-requires : goal.check_inputs-requires
 check_inputs-requires g c =
-    let fit = fits g (goal.at.check_inputs-requires g c).In_ok-signatures in
-    record {
-      signed = signed_moved (g.L.BlockLibrary.meaning c.args.library.now) c.args.columns.now _ _ _ _ _ refl refl c.deref.ensures.value fit;
-      counted = counted_moved (g.L.BlockLibrary.meaning c.args.library.now) c.args.columns.now _ _ _ _ _ refl refl c.deref.ensures.value fit;
-    }
+    counted_moved (g.L.BlockLibrary.meaning c.args.library.now) c.args.columns.now _ _ _ _ _ refl refl c.deref.ensures.value
+    (fits g (goal.at.check_inputs-requires g c).In_ok-signatures)
 
 pub returns-in_err-check_inputs : goal.returns-in_err-check_inputs
 returns-in_err-check_inputs g c =
@@ -47,18 +50,15 @@ returns-in_err-check_inputs g c =
 
 pub arrange-requires : goal.arrange-requires
 arrange-requires g c =
-    let fit = fits g (goal.at.arrange-requires g c).In_ok-signatures in
-    let join = joins g (goal.at.arrange-requires g c).In_ok-check_inputs in
-    record {
-      signed = signed_moved (g.L.BlockLibrary.meaning c.args.library.now) c.args.columns.now _ _ _ _ _ refl refl c.deref-2.ensures.value fit;
-      wired = wired_moved (g.L.BlockLibrary.meaning c.args.library.now) c.args.columns.now _ _ _ _ _ refl refl c.deref-2.ensures.value fit join;
-    }
+    wired_moved (g.L.BlockLibrary.meaning c.args.library.now) c.args.columns.now _ _ _ _ _ refl refl c.deref.ensures.value
+    (fits g (goal.at.arrange-requires g c).In_ok-signatures)
+    (joins g (goal.at.arrange-requires g c).In_ok-check_inputs)
 
 pub returns-in_err-order : goal.returns-in_err-order
 returns-in_err-order g c =
     let p = err_from_is_err_and c.from_residual-in_err-order.result c.from_residual-in_err-order.ensures.1 in
     rw (p.1, p.2)
-    (refuses_loop (g.L.BlockLibrary.meaning c.args.library.now) c.args.columns.now _ _ _ _ _ refl refl c.deref-2.ensures.value
+    (refuses_loop (g.L.BlockLibrary.meaning c.args.library.now) c.args.columns.now _ _ _ _ _ refl refl c.deref.ensures.value
     (fits g (goal.at.returns-in_err-order g c).In_ok-signatures)
     (joins g (goal.at.returns-in_err-order g c).In_ok-check_inputs) _ c.in_err-order.ensures)
 

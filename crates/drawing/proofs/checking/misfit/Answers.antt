@@ -1,21 +1,14 @@
-use Rattle.std.proofs.Common.{Some, sym, refl, ap, ◌∙◌, arith, below_more}
-use borrow.Author.Tests.{both_ways}
+use Rattle.std.proofs.Common.{rules}
+use Rattle.std.proofs.lemmas.Iterator.{IsFirst-from_position, YieldsList-from_slice}
+use Rattle.std.proofs.lemmas.Iterator.Consumers.{YieldsList-from_enumerate}
+use borrow.Author.Tests.{tests}
 use Rattle.blocks.specs.Library.{listed}
-use Rattle.drawing.proofs.Types.{differs, agrees, all_agree}
+use Rattle.drawing.proofs.Types.{Agrees, first_misfit}
 use Rattle.drawing.proofs.checking.misfit.Goals as goal
 
-pub returns-then-not-has : goal.returns-then-not-has
-returns-then-not-has c = record {
-  there = c.loop-p-test.true;
-  differs = differs _ (listed c.args.types) _ c.loop-p-test.true _
-      (λ e. both_ways _ refl (c.if-not-has.ensures.1 (e ∙ ap Some (sym c.value_type.ensures))));
-  before = c.loop-p.invariant;
-}
-
-pub loop-p-preserved : goal.loop-p-preserved
-loop-p-preserved c =
-    below_more _ _ c.loop-p.invariant
-    (agrees _ (listed c.args.types) _ c.loop-p-test.true _ (c.if-not-has.ensures.0 refl ∙ ap Some c.value_type.ensures))
-
 pub returns : goal.returns
-returns c = all_agree _ (listed c.args.types) c.requires (λ q h. c.loop-p.invariant q (omega (arith, c.loop-p-test.false)))
+returns c =
+    let ps = c.args.params.now in
+    let ts = listed c.args.types.now in
+    first_misfit ps ts _ c.requires (IsFirst-from_position _ _ c.position.result (λ p. Agrees ps ts p → ⊥) (Agrees ps ts) c.position.ensures.ran
+    (YieldsList-from_enumerate (YieldsList-from_slice ps cc) c.enumerate.ensures.count) (λ x q k. search (rules, tests)) (λ x q k. search (rules, tests)))
