@@ -1,4 +1,4 @@
 pub mod Example
 pub mod Packing
-pub mod Puts
+pub mod Appending
 pub mod Relaying

@@ -1,4 +1,4 @@
-pub mod Put
+pub mod Appends
 pub mod Written
 pub mod Example
 pub mod Load

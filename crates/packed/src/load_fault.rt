@@ -1,6 +1,7 @@
 // Why no drawing is loaded: the lower layer's fault, whole.
 use draft::ReadFault;
 use drawing::CheckFault;
+use faults::Failure;
 
 #[derive(Clone, Copy, PartialEq, Eq, Debug)]
 pub enum LoadFault {
@@ -8,8 +9,4 @@ pub enum LoadFault {
     Check(CheckFault),
 }
 
-#[derive(Clone, Copy, PartialEq, Eq, Debug)]
-pub enum LoadError {
-    Fault(LoadFault),
-    NoMemory,
-}
+pub type LoadError = Failure<LoadFault>;

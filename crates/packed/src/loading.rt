@@ -26,28 +26,7 @@ impl From<CheckFault> for LoadFault {
     }
 }
 
-impl From<ReadError> for LoadError {
-    ghost from_gives = { λ e r. r ≡ from_read e };
-
-    fn from(error: ReadError) -> LoadError {
-        match error {
-            ReadError::Fault(fault) => LoadError::Fault(fault.into()),
-            ReadError::NoMemory => LoadError::NoMemory,
-        }
-    }
-}
-
-impl From<CheckError> for LoadError {
-    ghost from_gives = { λ e r. r ≡ from_check e };
-
-    fn from(error: CheckError) -> LoadError {
-        match error {
-            CheckError::Fault(fault) => LoadError::Fault(fault.into()),
-            CheckError::NoMemory => LoadError::NoMemory,
-        }
-    }
-}
-
+// Layer 4 tells the lower layer's number and place.
 fn relay(report: Report) -> Report
     ensures { result ≡ relayed report }
 {
@@ -58,24 +37,38 @@ fn relay(report: Report) -> Report
     }
 }
 
-impl LoadFault {
-    pub fn report(self) -> Report
-        ensures { result ≡ load_report self }
-    {
-        match self {
-            LoadFault::Read(fault) => relay(fault.report()),
-            LoadFault::Check(fault) => relay(fault.report()),
+impl From<LoadFault> for Report {
+    ghost from_gives = { λ fault report. report ≡ load_report fault };
+
+    fn from(fault: LoadFault) -> Report {
+        match fault {
+            LoadFault::Read(fault) => relay(Report::from(fault)),
+            LoadFault::Check(fault) => relay(Report::from(fault)),
         }
     }
+}
+
+// A lower layer's failure, told by this one: a function for each, since load's own clause allows want of memory at any
+// file and so cannot say that a fault stays one.
+fn unread(error: ReadError) -> LoadError
+    ensures { result ≡ from_read error }
+{
+    error.carried()
+}
+
+fn unaccepted(refusal: CheckError) -> LoadError
+    ensures { result ≡ from_check refusal }
+{
+    refusal.carried()
 }
 
 // The drawing of a file, or the first fault of the file or of its draft.
 pub fn load<L: BlockLibrary>(heap: Global, library: &L, file: &[u8]) -> Result<Drawing, LoadError>
     ensures { MatchResult result (Loads (L.meaning library.now) file.now) (Unloaded (L.meaning library.now) file.now) }
 {
-    let draft = read_draft(heap, file)?;
+    let draft = read_draft(heap, file).map_err(unread)?;
     match check(heap, library, draft) {
         Ok(drawing) => Ok(drawing),
-        Err(rejected) => Err(rejected.error.into()),
+        Err(rejected) => Err(unaccepted(rejected.error)),
     }
 }
