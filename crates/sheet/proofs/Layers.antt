@@ -1,6 +1,6 @@
 -- The writes of a cycle over its row, from the latest back. Assumes nothing.
 use Rattle.std.proofs.Common.{◌≡◌, ℕ, zero, suc, ◌<◌, ◌≤◌, Bool, true, false, cond, eqb, ◌≢◌, List, [], ◌∷◌, length, get_or, take, set, replicate, Some, None, fold, Option, sym, refl, ap, ◌∙◌, subst, ⊎_elim, add-one, arith}
-use Rattle.std.proofs.lemmas.List.{length-set, length-replicate, get_or-replicate, get_or-set_same, get_or-set_other, set_past, ext_get_or}
+use Rattle.std.proofs.lemmas.List.{length-set, length-replicate, get_or-replicate, get_or-set_same, get_or-set_other, ext_get_or}
 use Rattle.std.proofs.lemmas.List.Sums.{fold_more}
 use Rattle.std.proofs.lemmas.Bool.{cases_eq, cases_lt, cases_Bool, eq-eqb, ne_eqb, cond-true, cond-false, both_ways}
 use Rattle.values.specs.declared.packed.Cell.{Cell}
@@ -40,127 +40,125 @@ layer_up_to cycle first ws (suc n) h =
     layer_no cycle first ws n (omega arith) no ∙ layer_up_to cycle first ws n (omega arith) ∙ ap (layer cycle first ws) (sym (up_to_no ws cycle n no)))
     (cases_eq (get_or ws n no_write).cycle cycle)
 
--- The row so far: a column that is written has its last cell, and the writes up to `at` give the others theirs.
-pub record Layered (cycle : ℕ) (first : List Cell) (ws : List Write) (n : ℕ) (at : Option ℕ) (row : List Cell) (written : List Bool) : Type 0 where
-  pub row_length : length row ≡ 8
-  pub written_length : length written ≡ 8
+-- The row so far: a column that is given a cell has its last one, and the writes up to `at` give the others theirs.
+pub record Layered (cycle : ℕ) (first : List Cell) (ws : List Write) (n : ℕ) (at : Option ℕ) (row : List Cell) (given : List Bool) : Type 0 where
+  pub width : length row ≡ length first
+  pub flags : length given ≡ 8
   pub hit : Hit ws cycle n at
-  pub settled : (k : ℕ) → k < 8 → get_or (layer cycle first ws n) k no_cell ≡ cond (get_or written k false) (get_or row k no_cell) (get_or (layer cycle first ws (through at)) k no_cell)
-  pub open_yet : (k : ℕ) → k < 8 → get_or written k false ≡ false → get_or row k no_cell ≡ get_or first k no_cell
+  pub settled : (k : ℕ) → k < length first → get_or (layer cycle first ws n) k no_cell ≡ cond (get_or given k false) (get_or row k no_cell) (get_or (layer cycle first ws (through at)) k no_cell)
+  pub open_yet : (k : ℕ) → k < length first → get_or given k false ≡ false → get_or row k no_cell ≡ get_or first k no_cell
 
-pub layered_start : (cycle : ℕ) (first : List Cell) (ws : List Write) (n : ℕ) (at : Option ℕ) → length first ≡ 8 → n ≤ length ws → through at ≡ up_to ws cycle n → Layered cycle first ws n at first (replicate 8 false)
+pub layered_start : (cycle : ℕ) (first : List Cell) (ws : List Write) (n : ℕ) (at : Option ℕ) → length first ≤ 8 → n ≤ length ws → through at ≡ up_to ws cycle n → Layered cycle first ws n at first (replicate 8 false)
 layered_start cycle first ws n at eight long e =
     record {
-      row_length = eight;
-      written_length = length-replicate 8 false;
+      width = refl;
+      flags = length-replicate 8 false;
       hit = hit_from ws cycle n at e;
       settled = λ k l.
           ap (λ c. get_or c k no_cell) (layer_up_to cycle first ws n long ∙ ap (layer cycle first ws) (sym e)) ∙
-          sym (cond-false _ _ _ (get_or-replicate 8 k false false l));
+          sym (cond-false _ _ _ (get_or-replicate 8 k false false (omega arith)));
       open_yet = λ k l _. refl;
     }
 
-pub layered_end : (cycle : ℕ) (first : List Cell) (ws : List Write) (n : ℕ) (row : List Cell) (written : List Bool) → length first ≡ 8 → Layered cycle first ws n None row written → row ≡ layer cycle first ws n
-layered_end cycle first ws n row written eight h =
-    ext_get_or no_cell row (layer cycle first ws n) (h.row_length ∙ sym eight ∙ sym (length_over cycle (take n ws) first))
+pub layered_end : (cycle : ℕ) (first : List Cell) (ws : List Write) (n : ℕ) (row : List Cell) (given : List Bool) → Layered cycle first ws n None row given → row ≡ layer cycle first ws n
+layered_end cycle first ws n row given h =
+    ext_get_or no_cell row (layer cycle first ws n) (h.width ∙ sym (length_over cycle (take n ws) first))
     (λ k l.
-    let m : k < 8 = omega (arith, h.row_length) in
+    let m : k < length first = omega (arith, h.width) in
     ⊎_elim
-    (λ (y : get_or written k false ≡ true). sym (h.settled k m ∙ cond-true _ _ _ y))
-    (λ (no : get_or written k false ≡ false). h.open_yet k m no ∙ sym (h.settled k m ∙ cond-false _ _ _ no))
-    (cases_Bool (get_or written k false)))
+    (λ (y : get_or given k false ≡ true). sym (h.settled k m ∙ cond-true _ _ _ y))
+    (λ (no : get_or given k false ≡ false). h.open_yet k m no ∙ sym (h.settled k m ∙ cond-false _ _ _ no))
+    (cases_Bool (get_or given k false)))
 
 weaker : (ws : List Write) (cycle i n : ℕ) (at : Option ℕ) → i ≤ n → Hit ws cycle i at → Hit ws cycle n at
 weaker ws cycle i n None l h = tt
 weaker ws cycle i n (Some k) l h = (omega (arith, h.0), h.1)
 
-module _ (cycle : ℕ) (first : List Cell) (ws : List Write) (n i : ℕ) (next : Option ℕ) (row : List Cell) (written : List Bool) (eight : length first ≡ 8) (long : n ≤ length ws) (link : through next ≡ up_to ws (get_or ws i no_write).cycle i) (before : Layered cycle first ws n (Some i) row written) where
+module _ (cycle : ℕ) (first : List Cell) (ws : List Write) (n i : ℕ) (next : Option ℕ) (w : Write) (row : List Cell) (given : List Bool) (eight : length first ≤ 8) (long : n ≤ length ws) (is : w ≡ get_or ws i no_write) (link : through next ≡ up_to ws w.cycle i) (before : Layered cycle first ws n (Some i) row given) where
+  inside : i < length ws
+  inside = omega (arith, before.hit.0)
+
   linked : through next ≡ up_to ws cycle i
-  linked = link ∙ ap (λ c. up_to ws c i) before.hit.1
+  linked = link ∙ ap (λ (v : Write). up_to ws v.cycle i) is ∙ ap (λ c. up_to ws c i) before.hit.1
 
   next_hit : Hit ws cycle n next
   next_hit = weaker ws cycle i n next (omega (arith, before.hit.0)) (hit_from ws cycle i next linked)
 
-  inside : i < length ws
-  inside = omega (arith, before.hit.0)
+  top : layer cycle first ws (suc i) ≡ set (layer cycle first ws i) w.column w.cell
+  top = layer_yes cycle first ws i inside before.hit.1 ∙ ap (λ (v : Write). set (layer cycle first ws i) v.column v.cell) (sym is)
 
   -- the columns beside the write's
-  beside : (k : ℕ) → k ≢ (get_or ws i no_write).column → get_or (layer cycle first ws (suc i)) k no_cell ≡ get_or (layer cycle first ws (through next)) k no_cell
+  beside : (k : ℕ) → k ≢ w.column → get_or (layer cycle first ws (suc i)) k no_cell ≡ get_or (layer cycle first ws (through next)) k no_cell
   beside k ne =
-      ap (λ c. get_or c k no_cell) (layer_yes cycle first ws i inside before.hit.1) ∙
-      get_or-set_other (layer cycle first ws i) (get_or ws i no_write).column k (get_or ws i no_write).cell no_cell ne ∙
+      ap (λ c. get_or c k no_cell) top ∙
+      get_or-set_other (layer cycle first ws i) w.column k w.cell no_cell ne ∙
       ap (λ c. get_or c k no_cell) (layer_up_to cycle first ws i (omega (arith, inside)) ∙ ap (layer cycle first ws) (sym linked))
 
-  -- a column that was written later stays
-  layered_keep : ((get_or ws i no_write).column < 8 → get_or written (get_or ws i no_write).column false ≡ true) → Layered cycle first ws n next row written
-  layered_keep w =
+  -- a column that was given a cell keeps it
+  layered_keep : (w.column < length first → get_or given w.column false ≡ true) → Layered cycle first ws n next row given
+  layered_keep had =
       record {
-        row_length = before.row_length;
-        written_length = before.written_length;
+        width = before.width;
+        flags = before.flags;
         hit = next_hit;
         settled = λ k l.
             ⊎_elim
-            (λ (e : k ≡ (get_or ws i no_write).column).
-            let y : get_or written k false ≡ true = ap (λ c. get_or written c false) e ∙ w (omega (arith, e)) in
+            (λ (e : k ≡ w.column).
+            let y : get_or given k false ≡ true = ap (λ c. get_or given c false) e ∙ had (omega (arith, e)) in
             before.settled k l ∙ cond-true _ _ _ y ∙ sym (cond-true _ _ _ y))
-            (λ (ne : k ≢ (get_or ws i no_write).column).
-            before.settled k l ∙ ap (λ c. cond (get_or written k false) (get_or row k no_cell) c) (beside k ne))
-            (cases_eq k (get_or ws i no_write).column);
+            (λ (ne : k ≢ w.column).
+            before.settled k l ∙ ap (λ c. cond (get_or given k false) (get_or row k no_cell) c) (beside k ne))
+            (cases_eq k w.column);
         open_yet = before.open_yet;
       }
 
-  module _ (within : (get_or ws i no_write).column < 8) (no : get_or written (get_or ws i no_write).column false ≡ false) where
-    own : get_or (layer cycle first ws n) (get_or ws i no_write).column no_cell ≡ (get_or ws i no_write).cell
+  module _ (within : w.column < length first) (no : get_or given w.column false ≡ false) where
+    own : get_or (layer cycle first ws n) w.column no_cell ≡ w.cell
     own =
-        let l : (get_or ws i no_write).column < length (layer cycle first ws i) = omega (arith, length_over cycle (take i ws) first) in
-        before.settled (get_or ws i no_write).column within ∙ cond-false _ _ _ no ∙
-        ap (λ c. get_or c (get_or ws i no_write).column no_cell) (layer_yes cycle first ws i inside before.hit.1) ∙
-        get_or-set_same (layer cycle first ws i) (get_or ws i no_write).column (get_or ws i no_write).cell no_cell l
+        let l : w.column < length (layer cycle first ws i) = omega (arith, length_over cycle (take i ws) first) in
+        before.settled w.column within ∙ cond-false _ _ _ no ∙
+        ap (λ c. get_or c w.column no_cell) top ∙
+        get_or-set_same (layer cycle first ws i) w.column w.cell no_cell l
 
-    marked : get_or (set written (get_or ws i no_write).column true) (get_or ws i no_write).column false ≡ true
-    marked = get_or-set_same written (get_or ws i no_write).column true false (omega (arith, before.written_length))
+    marked : get_or (set given w.column true) w.column false ≡ true
+    marked = get_or-set_same given w.column true false (omega (arith, before.flags))
 
     -- the latest write of a column gives its cell
-    layered_write : Layered cycle first ws n next (set row (get_or ws i no_write).column (get_or ws i no_write).cell) (set written (get_or ws i no_write).column true)
+    layered_write : Layered cycle first ws n next (set row w.column w.cell) (set given w.column true)
     layered_write =
-        let column = (get_or ws i no_write).column in
-        let cell = (get_or ws i no_write).cell in
         record {
-          row_length = length-set row column cell ∙ before.row_length;
-          written_length = length-set written column true ∙ before.written_length;
+          width = length-set row w.column w.cell ∙ before.width;
+          flags = length-set given w.column true ∙ before.flags;
           hit = next_hit;
           settled = λ k l.
               ⊎_elim
-              (λ (e : k ≡ column).
+              (λ (e : k ≡ w.column).
               rw e
-              (own ∙ sym (cond-true _ _ _ marked ∙ get_or-set_same row column cell no_cell (omega (arith, before.row_length)))))
-              (λ (ne : k ≢ column).
-              rw (get_or-set_other written column k true false ne, get_or-set_other row column k cell no_cell ne)
-              (before.settled k l ∙ ap (λ c. cond (get_or written k false) (get_or row k no_cell) c) (beside k ne)))
-              (cases_eq k column);
+              (own ∙ sym (cond-true _ _ _ marked ∙ get_or-set_same row w.column w.cell no_cell (omega (arith, before.width)))))
+              (λ (ne : k ≢ w.column).
+              rw (get_or-set_other given w.column k true false ne, get_or-set_other row w.column k w.cell no_cell ne)
+              (before.settled k l ∙ ap (λ c. cond (get_or given k false) (get_or row k no_cell) c) (beside k ne)))
+              (cases_eq k w.column);
           open_yet = λ k l free.
               ⊎_elim
-              (λ (e : k ≡ column). absurd (both_ways _ (ap (λ c. get_or (set written column true) c false) (sym e) ∙ free) marked))
-              (λ (ne : k ≢ column).
-              get_or-set_other row column k cell no_cell ne ∙ before.open_yet k l (sym (get_or-set_other written column k true false ne) ∙ free))
-              (cases_eq k column);
+              (λ (e : k ≡ w.column). absurd (both_ways _ (ap (λ c. get_or (set given w.column true) c false) (sym e) ∙ free) marked))
+              (λ (ne : k ≢ w.column).
+              get_or-set_other row w.column k w.cell no_cell ne ∙ before.open_yet k l (sym (get_or-set_other given w.column k true false ne) ∙ free))
+              (cases_eq k w.column);
         }
 
   -- one write back
-  pub layered_next : (row' : List Cell) (written' : List Bool) → row' ≡ cond (get_or written (get_or ws i no_write).column false) row (set row (get_or ws i no_write).column (get_or ws i no_write).cell) → written' ≡ cond (get_or written (get_or ws i no_write).column false) written (set written (get_or ws i no_write).column true) → Layered cycle first ws n next row' written'
-  layered_next row' written' e f =
-      let column = (get_or ws i no_write).column in
-      let cell = (get_or ws i no_write).cell in
+  pub layered_next : (row' : List Cell) (given' : List Bool) → (length row ≤ w.column → (row' ≡ row) × (given' ≡ given)) → (get_or given w.column false ≡ true → (row' ≡ row) × (given' ≡ given)) → (w.column < length row → get_or given w.column false ≡ false → (row' ≡ set row w.column w.cell) × (given' ≡ set given w.column true)) → Layered cycle first ws n next row' given'
+  layered_next row' given' past kept put =
       let P : List Cell → List Bool → Type 0 = Layered cycle first ws n next in
-      let by : (r : List Cell) (w : List Bool) → row' ≡ r → written' ≡ w → P r w → P row' written' =
-      λ r w a b h. subst (λ x. P x written') (sym a) (subst (P r) (sym b) h) in
+      let by : (r : List Cell) (g : List Bool) → (row' ≡ r) × (given' ≡ g) → P r g → P row' given' =
+      λ r g e h. subst (λ x. P x given') (sym e.0) (subst (P r) (sym e.1) h) in
       ⊎_elim
-      (λ (y : get_or written column false ≡ true).
-      by row written (e ∙ cond-true _ _ _ y) (f ∙ cond-true _ _ _ y) (layered_keep (λ _. y)))
-      (λ (no : get_or written column false ≡ false).
+      (λ (y : get_or given w.column false ≡ true). by row given (kept y) (layered_keep (λ _. y)))
+      (λ (no : get_or given w.column false ≡ false).
       ⊎_elim
-      (λ (l : column < 8). by (set row column cell) (set written column true) (e ∙ cond-false _ _ _ no) (f ∙ cond-false _ _ _ no) (layered_write l no))
-      (λ (l : 8 ≤ column).
-      by row written (e ∙ cond-false _ _ _ no ∙ set_past row column cell (omega (arith, before.row_length))) (f ∙ cond-false _ _ _ no ∙ set_past written column true (omega (arith, before.written_length))) (layered_keep (λ m. absurd (omega arith))))
-      (cases_lt column 8))
-      (cases_Bool (get_or written column false))
+      (λ (l : w.column < length row).
+      by (set row w.column w.cell) (set given w.column true) (put l no) (layered_write (omega (arith, before.width)) no))
+      (λ (l : length row ≤ w.column). by row given (past l) (layered_keep (λ m. absurd (omega (arith, before.width)))))
+      (cases_lt w.column (length row)))
+      (cases_Bool (get_or given w.column false))

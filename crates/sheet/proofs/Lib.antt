@@ -1,10 +1,8 @@
-pub mod Widths
 pub mod Matching
 pub mod Chaining
 pub mod Layers
-pub mod Cutting
+pub mod Judging
 pub mod Placing
 pub mod Overlays
 pub mod Fitting
 pub mod Undoing
-pub mod Counts

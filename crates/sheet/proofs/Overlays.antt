@@ -1,7 +1,7 @@
 -- The standing rows, and what writes more or less do to them. Assumes nothing.
-use Rattle.std.proofs.Common.{◌≡◌, ℕ, zero, suc, ◌+◌, ◌-◌, ◌*◌, ◌<◌, ◌≤◌, true, false, cond, eqb, List, [], ◌∷◌, map, length, take, drop, set, Some, None, fold, Option, sym, refl, ap, ◌∙◌, arith}
+use Rattle.std.proofs.Common.{◌≡◌, ℕ, ◌+◌, ◌-◌, ◌*◌, ◌<◌, ◌≤◌, true, false, cond, eqb, List, [], ◌∷◌, map, length, take, drop, set, Some, None, fold, Option, sym, refl, ap, ◌∙◌, arith}
 use Rattle.std.proofs.iter.runs.Lists.{fold-append}
-use Rattle.std.proofs.lemmas.List.{map-set, take-append-drop, take_all, take_more, drop_all}
+use Rattle.std.proofs.lemmas.List.{map-set, take-append-drop, take_all, take_more, drop_all, nil_from_length}
 use Rattle.std.proofs.lemmas.List.Sums.{fold_push}
 use Rattle.std.proofs.lemmas.Bool.{eq-eqb, ne_eqb, cond-true, cond-false}
 use Rattle.values.specs.declared.scalar.Value.{Value}
@@ -13,25 +13,19 @@ use Rattle.sheet.specs.Page.{Page, appended, latest_write, struck_latest}
 use Rattle.sheet.specs.Rows.{first_rows, overwritten, over, rows_of}
 use Rattle.sheet.specs.Calls.{lower, lowest}
 use Rattle.sheet.specs.Laws.{SameBut, SameBelow, Puts}
-
-take_set : {X : Type 0} (n : ℕ) (xs : List X) (i : ℕ) (y : X) → take n (set xs i y) ≡ set (take n xs) i y
-take_set zero xs i y = refl
-take_set (suc n) [] i y = refl
-take_set (suc n) (x ∷ xs) zero y = refl
-take_set (suc n) (x ∷ xs) (suc i) y = ap (λ l. x ∷ l) (take_set n xs i y)
+use Rattle.sheet.proofs.Layers.{length_over}
 
 -- a write over rows of values, from the same write over the cells of one row
-one_over : (rows : ℕ → List Value) (w : Write) (cycle n : ℕ) (row : List Cell) → rows cycle ≡ map value_of (take n row) → overwritten rows w cycle ≡ map value_of (take n (over cycle row w))
-one_over rows w cycle n row e =
-    elim (eqb w.cycle cycle) as (λ b. cond b (set (rows cycle) w.column (value_of w.cell)) (rows cycle) ≡ map value_of (take n (cond b (set row w.column w.cell) row))) [
-      | true ↦
-          ap (λ l. set l w.column (value_of w.cell)) e ∙ sym (map-set value_of (take n row) w.column w.cell) ∙ ap (map value_of) (sym (take_set n row w.column w.cell))
+one_over : (rows : ℕ → List Value) (w : Write) (cycle : ℕ) (row : List Cell) → rows cycle ≡ map value_of row → overwritten rows w cycle ≡ map value_of (over cycle row w)
+one_over rows w cycle row e =
+    elim (eqb w.cycle cycle) as (λ b. cond b (set (rows cycle) w.column (value_of w.cell)) (rows cycle) ≡ map value_of (cond b (set row w.column w.cell) row)) [
+      | true ↦ ap (λ l. set l w.column (value_of w.cell)) e ∙ sym (map-set value_of row w.column w.cell)
       | false ↦ e
     ]
 
-pub rows_over : (ws : List Write) (rows : ℕ → List Value) (cycle n : ℕ) (row : List Cell) → rows cycle ≡ map value_of (take n row) → fold overwritten rows ws cycle ≡ map value_of (take n (fold (over cycle) row ws))
-rows_over [] rows cycle n row e = e
-rows_over (w ∷ ws) rows cycle n row e = rows_over ws (overwritten rows w) cycle n (over cycle row w) (one_over rows w cycle n row e)
+pub rows_over : (ws : List Write) (rows : ℕ → List Value) (cycle : ℕ) (row : List Cell) → rows cycle ≡ map value_of row → fold overwritten rows ws cycle ≡ map value_of (fold (over cycle) row ws)
+rows_over [] rows cycle row e = e
+rows_over (w ∷ ws) rows cycle row e = rows_over ws (overwritten rows w) cycle (over cycle row w) (one_over rows w cycle row e)
 
 -- a write changes its own cycle alone, and there its own column
 pub other_cycle : (rows : ℕ → List Value) (w : Write) (k : ℕ) → k ≡ w.cycle → SameBut k rows (overwritten rows w)
@@ -95,4 +89,4 @@ row_past p cycle l =
     let width = length p.columns in
     let e : first_rows width p.first cycle ≡ [] =
     ap (λ xs. map value_of (take width xs)) (drop_all (cycle * width) p.first l) ∙ ap (map value_of) (take_all width [] (omega arith)) in
-    sym (rows_over p.writes (first_rows width p.first) cycle 0 [] e)
+    sym (rows_over p.writes (first_rows width p.first) cycle [] e ∙ ap (map value_of) (nil_from_length _ (length_over cycle p.writes [])))

@@ -1,6 +1,6 @@
 -- What holds of each standing write, as the list grows and is cut, and of calls that are not refused. Assumes nothing.
-use Rattle.std.proofs.Common.{◌≡◌, ℕ, ◌<◌, true, List, [], ◌∷◌, ◌++◌, length, take, None, ap, ◌∙◌, arith}
-use Rattle.std.proofs.ByRecursion.{All-get_or, All-from_get_or, All-push, All-take}
+use Rattle.std.proofs.Common.{◌≡◌, ℕ, ◌<◌, true, List, [], ◌∷◌, ◌++◌, length, None, ap, ◌∙◌, arith}
+use Rattle.std.proofs.ByRecursion.{All-get_or, All-from_get_or, All-push}
 use Rattle.std.proofs.lemmas.Bool.Decides.{nat_tests}
 use Rattle.values.specs.declared.scalar.Value.{Value}
 use Rattle.values.specs.declared.scalar.ValueType.{ValueType}
@@ -11,16 +11,10 @@ use Rattle.sheet.specs.Cells.{Placed, Typed, no_write, same_type, type_at}
 use Rattle.sheet.specs.Page.{Page, base}
 use Rattle.sheet.specs.Calls.{append_refusal, strike_refusal}
 
-module _ (types : List ValueType) (rows : ℕ) (ws : List Write) (typed : Typed types rows ws) where
-  pub typed_push : (w : Write) → Placed types rows w → Typed types rows (ws ++ w ∷ [])
-  typed_push w p k l =
-      All-get_or (Placed types rows) (ws ++ w ∷ []) k no_write l
-      (All-push (Placed types rows) ws w (All-from_get_or (Placed types rows) ws no_write typed) p)
-
-  pub typed_take : (n : ℕ) → Typed types rows (take n ws)
-  typed_take n k l =
-      All-get_or (Placed types rows) (take n ws) k no_write l
-      (All-take (Placed types rows) n ws (All-from_get_or (Placed types rows) ws no_write typed))
+pub typed_push : (types : List ValueType) (rows : ℕ) (ws : List Write) (w : Write) → Typed types rows ws → Placed types rows w → Typed types rows (ws ++ w ∷ [])
+typed_push types rows ws w typed p k l =
+    All-get_or (Placed types rows) (ws ++ w ∷ []) k no_write l
+    (All-push (Placed types rows) ws w (All-from_get_or (Placed types rows) ws no_write typed) p)
 
 -- what a call that is not refused may rely on
 pub record Accepted (p : Page) (cycle column : ℕ) (v : Value) : Type 0 where

@@ -1,26 +1,17 @@
 -- Strikes undo appends. Assumes nothing.
-use Rattle.std.proofs.Common.{◌≡◌, ℕ, zero, suc, ◌-◌, ◌<◌, ◌≤◌, min, cond, not, eqb, leb, List, [], ◌∷◌, ◌++◌, length, get_or, take, Some, None, Ok, Option, Result, sym, refl, ap, ◌∙◌, ⊎_elim, arith}
-use Rattle.std.proofs.lemmas.List.{length_push, take_at, drop_at, get_or_push, append_assoc, append-nil}
+use Rattle.std.proofs.Common.{◌≡◌, ℕ, zero, suc, ◌<◌, ◌≤◌, min, cond, not, eqb, List, [], ◌∷◌, ◌++◌, length, get_or, Some, None, Ok, Option, Result, sym, refl, ap, ◌∙◌, ⊎_elim, arith}
+use Rattle.std.proofs.lemmas.List.{take_at, drop_at, append_assoc, append-nil}
 use Rattle.std.proofs.lemmas.Bool.{cases_lt}
 use Rattle.std.proofs.lemmas.Bool.Decides.{nat_tests}
 use Rattle.faults.specs.declared.fault.Fault.{Fault}
-use Rattle.faults.specs.declared.fault.Fault.TheVariants.{NothingToTakeBack, NoSuchTrial}
+use Rattle.faults.specs.declared.fault.Fault.TheVariants.{NoSuchTrial}
 use Rattle.sheet.specs.declared.slip.Slip.{Slip}
 use Rattle.sheet.specs.declared.slip.Returned.{Returned}
 use Rattle.sheet.specs.declared.write.Write.{Write}
 use Rattle.sheet.specs.Cells.{no_write}
-use Rattle.sheet.specs.Page.{Page, with_writes, with_trial, base, appended, latest_write, struck_latest, opened, struck_since, since}
-use Rattle.sheet.specs.Calls.{lower, lowest, strike_refusal, is_trial, slip_now, slip_refusal}
-use Rattle.sheet.specs.Laws.{appended_all, Lowest, UndoesAppend, UndoesTrial}
-
-before_last : (ws : List Write) (w : Write) → length (ws ++ w ∷ []) - 1 ≡ length ws
-before_last ws w = omega (arith, length_push ws w)
-
-pub strike_undoes : (p : Page) (w : Write) → struck_latest (appended p w) ≡ p
-strike_undoes p w = ap (with_writes p) (ap (λ n. take n (p.writes ++ w ∷ [])) (before_last p.writes w) ∙ take_at p.writes (w ∷ []) (length p.writes) refl)
-
-pub strike_tells : (p : Page) (w : Write) → latest_write (appended p w) ≡ w
-strike_tells p w = ap (λ n. get_or (p.writes ++ w ∷ []) n no_write) (before_last p.writes w) ∙ get_or_push p.writes w no_write (length p.writes) refl
+use Rattle.sheet.specs.Page.{Page, with_writes, with_trial, appended, opened, struck_since, since}
+use Rattle.sheet.specs.Calls.{lower, lowest, is_trial, slip_now, slip_refusal}
+use Rattle.sheet.specs.Laws.{appended_all, Lowest, UndoesTrial}
 
 pub appended_all_lem : (p : Page) (ws : List Write) → appended_all p ws ≡ with_writes p (p.writes ++ ws)
 appended_all_lem p [] = ap (with_writes p) (sym (append-nil p.writes))
@@ -36,11 +27,8 @@ module _ (p : Page) (ws : List Write) where
   trial_since =
       ap (λ q. since q (length p.writes)) (appended_all_lem (opened p) ws) ∙ drop_at p.writes ws (length p.writes) refl
 
-refused_not : (n b : ℕ) (f : Fault) → b < n → Some f ≡ cond (leb n b) (Some NothingToTakeBack) None → ⊥
-refused_not n b f l e = grind (arith, nat_tests)
-
-refused_not' : (n : ℕ) (f : Fault) → Some f ≡ cond (not (eqb n n)) (Some NoSuchTrial) None → ⊥
-refused_not' n f e = grind (arith, nat_tests)
+refused_not : (n : ℕ) (f : Fault) → Some f ≡ cond (not (eqb n n)) (Some NoSuchTrial) None → ⊥
+refused_not n f e = grind (arith, nat_tests)
 
 -- a bound of one write and of others
 bound : (m : ℕ) (w : Write) (ws : List Write) → m ≤ w.cycle → ((i : ℕ) → i < length ws → m ≤ (get_or ws i no_write).cycle) → (i : ℕ) → i < suc (length ws) → m ≤ (get_or (w ∷ ws) i no_write).cycle
@@ -64,17 +52,6 @@ lowest_is (w ∷ ws) = lowest_more w ws (lowest ws) (lowest_is ws)
 -- ---- as the calls promise it
 
 module _ (before after : Page) where
-  pub undoes_append : (r : Result ℕ Fault) → after ≡ struck_latest before → r ≡ Ok (latest_write before).cycle → UndoesAppend before r after
-  undoes_append r a b p w _ e =
-      (b ∙ ap (λ q. Ok (latest_write q).cycle) e ∙ ap (λ v. Ok v.cycle) (strike_tells p w), a ∙ ap struck_latest e ∙ strike_undoes p w)
-
-  -- a strike that is refused has nothing to undo
-  pub refused_append : (r : Result ℕ Fault) (f : Fault) → Some f ≡ strike_refusal before → UndoesAppend before r after
-  refused_append r f t p w l e =
-      let n = length_push p.writes w in
-      let s : Some f ≡ strike_refusal (appended p w) = t ∙ ap strike_refusal e in
-      absurd (refused_not (length (p.writes ++ w ∷ [])) (base p) f (omega (arith, n)) s)
-
   pub undoes_trial : (slip : Slip) (r : Result (Option ℕ) Returned) → after ≡ struck_since before slip.standing → r ≡ Ok (lowest (since before slip.standing)) → UndoesTrial before slip r after
   undoes_trial slip r a b p ws none e t =
       let m = ap (λ (s : Slip). s.standing) t in (
@@ -86,4 +63,4 @@ module _ (before after : Page) where
   refused_trial slip r f g p ws none e t =
       let o : before.trial ≡ Some (length p.writes) = ap (λ q. q.trial) (e ∙ appended_all_lem (opened p) ws) in
       let s : Some f ≡ slip_refusal (opened p) (slip_now p) = g ∙ ap (λ u. slip_refusal before u) t ∙ ap (λ u. cond (not (is_trial u (length p.writes))) (Some NoSuchTrial) None) o in
-      absurd (refused_not' (length p.writes) f s)
+      absurd (refused_not (length p.writes) f s)

@@ -1,17 +1,14 @@
 // The columns of a sheet.
-ghost use Rattle.std.specs.Prelude.{◌≡◌, ◌≤◌, length};
+ghost use Rattle.std.specs.Prelude.{◌≤◌, length};
 
+use arrayvec::ArrayVec;
 use values::ValueType;
 
 mod types;
 
-pub(crate) use types::same_type;
-
 // The types of at most eight columns.
-#[derive(Clone, Copy)]
+#[derive(Drop)]
 pub struct Columns {
-    types: [ValueType; 8],
-    len: usize,
-    ghost whole: { length types ≡ 8 },
-    ghost few: { len ≤ 8 },
+    types: ArrayVec<ValueType, 8>,
+    ghost few: { length types.items ≤ 8 },
 }

@@ -1,45 +1,45 @@
 // A row that is given its cells from the latest write back.
-ghost use Rattle.std.specs.Prelude.{◌≡◌, true, false, length, replicate, if◌then◌else◌, slice_index_or, slice_set};
+ghost use Rattle.std.specs.Prelude.{◌≡◌, ◌<◌, ◌≤◌, true, false, length, replicate, slice_index_or, slice_set};
 
+use arrayvec::ArrayVec;
 use values::Cell;
 
-// A column keeps the first cell that it is given.
+// A column keeps the first cell that it is given. With a cell or none for each column, laid over the row at the end,
+// a row with many writes took up to twice as long.
 #[derive(Drop)]
 pub(crate) struct Overlay {
-    cells: [Cell; 8],
+    cells: ArrayVec<Cell, 8>,
     given: [bool; 8],
-    ghost whole: { length cells ≡ 8 },
+    ghost few: { length cells.items ≤ 8 },
     ghost flags: { length given ≡ 8 },
 }
 
 impl Overlay {
-    pub(crate) fn new(first: [Cell; 8]) -> Overlay
-        requires { length first ≡ 8 }
-        ensures cells { result.cells ≡ first }
+    pub(crate) fn new(first: &[Cell]) -> Overlay
+        requires { length first.now ≤ 8 }
+        ensures cells { result.cells.items ≡ first.now }
         ensures given { result.given ≡ replicate 8 false }
     {
         Overlay {
-            cells: first,
+            cells: ArrayVec::try_from(first).unwrap(),
             given: [false; 8],
         }
     }
 
     pub(crate) fn give(&mut self, column: u32, cell: Cell)
-        ensures cells { self.new.cells ≡ (if slice_index_or self.old.given column false then self.old.cells else slice_set self.old.cells column cell) }
-        ensures given { self.new.given ≡ (if slice_index_or self.old.given column false then self.old.given else slice_set self.old.given column true) }
+        ensures past { length self.old.cells.items ≤ column → self.new ≡ self.old }
+        ensures kept { slice_index_or self.old.given column false ≡ true → self.new ≡ self.old }
+        ensures cells { column < length self.old.cells.items → slice_index_or self.old.given column false ≡ false → self.new.cells.items ≡ slice_set self.old.cells.items column cell }
+        ensures given { column < length self.old.cells.items → slice_index_or self.old.given column false ≡ false → self.new.given ≡ slice_set self.old.given column true }
     {
         let column = column as usize;
-        if column >= 8 {
-            return;
+        if column < self.cells.len() && !self.given[column] {
+            self.cells.as_mut_slice()[column] = cell;
+            self.given[column] = true;
         }
-        if self.given[column] {
-            return;
-        }
-        self.cells[column] = cell;
-        self.given[column] = true;
     }
 
-    pub(crate) fn into_cells(self) -> [Cell; 8]
+    pub(crate) fn into_cells(self) -> ArrayVec<Cell, 8>
         ensures { result ≡ self.cells }
     {
         self.cells

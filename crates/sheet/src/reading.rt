@@ -1,15 +1,11 @@
 // The standing cells of one cycle.
-ghost use Rattle.std.specs.Prelude.{◌≡◌, ◌≤◌, length};
-
+use arrayvec::ArrayVec;
 use values::Cell;
 
 mod cells;
 
 // A cell for each column.
-#[derive(Clone, Copy)]
+#[derive(Drop)]
 pub struct Reading {
-    cells: [Cell; 8],
-    len: usize,
-    ghost whole: { length cells ≡ 8 },
-    ghost few: { len ≤ 8 },
+    cells: ArrayVec<Cell, 8>,
 }

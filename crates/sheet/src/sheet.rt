@@ -1,7 +1,8 @@
 // Sheets, with what every sheet keeps.
-ghost use Rattle.std.specs.Prelude.{◌≡◌, ◌*◌, ◌≤◌, length, take};
+ghost use Rattle.std.specs.Prelude.{◌≡◌, ◌*◌, ◌≤◌, length};
 ghost use Rattle.std.specs.Option.{unwrap_or};
 ghost use Rattle.sheet.specs.Cells.{Sound, Typed};
+ghost use Rattle.sheet.specs.Held.{types_of, writes_of};
 
 use crate::columns::Columns;
 use crate::list::WriteList;
@@ -22,8 +23,8 @@ pub struct Sheet<'a> {
     writes: WriteList,
     trial: Option<u32>,
     ghost low: { rows ≤ 4096 },
-    ghost filled: { length cells.now ≡ rows * columns.len },
-    ghost sound: { Sound (take columns.len columns.types) cells.now },
-    ghost typed: { Typed (take columns.len columns.types) rows (take writes.len writes.items) },
-    ghost begun: { unwrap_or trial 0 ≤ writes.len },
+    ghost filled: { length cells.now ≡ rows * length (types_of columns) },
+    ghost sound: { Sound (types_of columns) cells.now },
+    ghost typed: { Typed (types_of columns) rows (writes_of writes) },
+    ghost begun: { unwrap_or trial 0 ≤ length (writes_of writes) },
 }

@@ -1,35 +1,26 @@
 // Writes come to the end of the list, and leave from there.
-ghost use Rattle.std.specs.Prelude.{◌≡◌, ◌+◌, ◌-◌, ◌<◌, [], ◌∷◌, ◌++◌, length, take, drop, slice_index_or};
+ghost use Rattle.std.specs.Prelude.{◌≡◌, ◌-◌, ◌<◌, [], ◌∷◌, ◌++◌, length, take, drop, slice_index_or};
 ghost use Rattle.sheet.specs.Cells.{no_write};
+ghost use Rattle.sheet.specs.Chains.{written};
 ghost use Rattle.sheet.specs.Held.{writes_of};
 ghost use Rattle.sheet.specs.Calls.{lower, lowest};
 
 use super::WriteList;
-use crate::write::Write;
-use values::Cell;
+use crate::write::{Standing, Write};
+use arrayvec::ArrayVec;
 
 fn lower_of(cycle: u32, low: Option<u32>) -> u32
     ensures { result ≡ lower cycle low }
 {
-    match low {
-        None => cycle,
-        Some(k) => cycle.min(k),
-    }
+    low.map_or(cycle, |k| cycle.min(k))
 }
 
 impl WriteList {
     pub(crate) fn new() -> WriteList
         ensures { writes_of result ≡ [] }
     {
-        let nothing = Write {
-            cycle: 0,
-            column: 0,
-            cell: Cell::Binary(false),
-        };
         WriteList {
-            items: [nothing; 1024],
-            len: 0,
-            previous: [None; 1024],
+            standing: ArrayVec::new(),
             latest: [None; 4096],
         }
     }
@@ -37,34 +28,24 @@ impl WriteList {
     pub(crate) fn len(&self) -> usize
         ensures { result ≡ length (writes_of self.now) }
     {
-        self.len
+        self.standing.len()
     }
 
-    pub(crate) fn as_slice(&self) -> &[Write]
-        ensures { result.now ≡ writes_of self.now }
+    pub(crate) fn as_slice(&self) -> &[Standing]
+        ensures { written result.now ≡ writes_of self.now }
     {
-        &self.items[0..self.len]
+        self.standing.as_slice()
     }
 
-    pub(crate) fn push(&mut self, w: Write)
+    pub(crate) fn push(&mut self, write: Write)
         requires room { length (writes_of self.old) < 1024 }
-        requires cycle { w.cycle < 4096 }
-        ensures { writes_of self.new ≡ writes_of self.old ++ w ∷ [] }
+        requires cycle { write.cycle < 4096 }
+        ensures { writes_of self.new ≡ writes_of self.old ++ write ∷ [] }
     {
-        let n = self.len;
-        let before = self.latest[w.cycle as usize];
-        self.items[n] = w;
-        self.previous[n] = before;
-        self.latest[w.cycle as usize] = Some(n as u16);
-        self.len = n + 1;
-    }
-
-    // The place of the latest write.
-    fn last(&self) -> usize
-        requires { 0 < self.now.len }
-        ensures { result + 1 ≡ self.now.len }
-    {
-        self.len - 1
+        let place = self.len() as u16;
+        let previous = self.latest[write.cycle as usize];
+        self.standing.push(Standing { write, previous });
+        self.latest[write.cycle as usize] = Some(place);
     }
 
     pub(crate) fn pop(&mut self) -> Write
@@ -72,12 +53,9 @@ impl WriteList {
         ensures write { result ≡ slice_index_or (writes_of self.old) (length (writes_of self.old) - 1) no_write }
         ensures left { writes_of self.new ≡ take (length (writes_of self.old) - 1) (writes_of self.old) }
     {
-        let n = self.last();
-        let w = self.items[n];
-        let before = self.previous[n];
-        self.latest[w.cycle as usize] = before;
-        self.len = n;
-        w
+        let Standing { write, previous } = self.standing.pop().unwrap();
+        self.latest[write.cycle as usize] = previous;
+        write
     }
 
     // Leaves the first n writes; answers the lowest cycle among the others.

@@ -1,4 +1,5 @@
-// Writes: appended, struck, and counted by column.
+// Writes: appended, struck, and counted by column. `untouched` relates a sheet before a call to the sheet after it, so it
+// stands on each call, and no type can say it.
 ghost use Rattle.std.specs.Prelude.{◌≡◌, IfOk, OnOk};
 ghost use Rattle.sheet.specs.Page.{page, write_of, appended, latest_write, struck_latest};
 ghost use Rattle.sheet.specs.Rows.{rows_of};
@@ -6,30 +7,35 @@ ghost use Rattle.sheet.specs.Calls.{Does, Untouched, Answers, append_refusal, st
 ghost use Rattle.sheet.specs.Laws.{Puts, SameBut, UndoesAppend};
 
 use super::Sheet;
-use crate::columns::same_type;
 use crate::write::Write;
 use faults::{Fault, Place};
-use values::Value;
+use values::{Cell, Value};
 
 impl Sheet<'_> {
+    fn may_append(&self, cycle: u32, column: u32, value: Value) -> Result<(), Fault>
+        ensures { Answers (append_refusal (page self.now) cycle column value) tt result }
+    {
+        let place = Place { cycle, column };
+        if cycle >= self.rows {
+            Err(Fault::CycleBeyond(place))
+        } else if column as usize >= self.columns.len() {
+            Err(Fault::ColumnBeyond(place))
+        } else if value.value_type() != self.columns.type_at(column) {
+            Err(Fault::WrongType(place))
+        } else if !value.is_finite() {
+            Err(Fault::NotFinite(place))
+        } else if self.writes.len() >= 1024 {
+            Err(Fault::ListFull(place))
+        } else {
+            Ok(())
+        }
+    }
+
     // Why a write may not be appended.
     pub fn append_refusal(&self, cycle: u32, column: u32, value: Value) -> Option<Fault>
         ensures { result ≡ append_refusal (page self.now) cycle column value }
     {
-        let place = Place { cycle, column };
-        if cycle >= self.rows {
-            Some(Fault::CycleBeyond(place))
-        } else if column as usize >= self.columns.len() {
-            Some(Fault::ColumnBeyond(place))
-        } else if !same_type(value.value_type(), self.columns.type_at(column as usize)) {
-            Some(Fault::WrongType(place))
-        } else if !value.is_finite() {
-            Some(Fault::NotFinite(place))
-        } else if self.writes.len() >= 1024 {
-            Some(Fault::ListFull(place))
-        } else {
-            None
-        }
+        self.may_append(cycle, column, value).err()
     }
 
     // One write more, which stands from now on.
@@ -38,10 +44,8 @@ impl Sheet<'_> {
         ensures puts { OnOk result (Puts cycle column value (rows_of (page self.old)) (rows_of (page self.new))) }
         ensures untouched { Untouched result self.old self.new }
     {
-        if let Some(fault) = self.append_refusal(cycle, column, value) {
-            return Err(fault);
-        }
-        let cell = value.cell();
+        self.may_append(cycle, column, value)?;
+        let cell = Cell::from(value);
         self.writes.push(Write {
             cycle,
             column,
@@ -50,15 +54,20 @@ impl Sheet<'_> {
         Ok(())
     }
 
+    fn may_strike(&self) -> Result<(), Fault>
+        ensures { Answers (strike_refusal (page self.now)) tt result }
+    {
+        if self.writes.len() <= self.trial.unwrap_or(0) as usize {
+            return Err(Fault::NothingToTakeBack);
+        }
+        Ok(())
+    }
+
     // Why no write may be struck.
     pub fn strike_refusal(&self) -> Option<Fault>
         ensures { result ≡ strike_refusal (page self.now) }
     {
-        if self.writes.len() <= self.trial.unwrap_or(0) as usize {
-            Some(Fault::NothingToTakeBack)
-        } else {
-            None
-        }
+        self.may_strike().err()
     }
 
     // Strikes the latest write, inside a trial only one made since its begin. Answers its cycle.
@@ -68,9 +77,7 @@ impl Sheet<'_> {
         ensures undoes { UndoesAppend (page self.old) result (page self.new) }
         ensures untouched { Untouched result self.old self.new }
     {
-        if let Some(fault) = self.strike_refusal() {
-            return Err(fault);
-        }
+        self.may_strike()?;
         let w = self.writes.pop();
         Ok(w.cycle)
     }
@@ -82,12 +89,7 @@ impl Sheet<'_> {
         if column as usize >= self.columns.len() {
             return Err(Fault::ColumnBeyond(Place { cycle: 0, column }));
         }
-        let mut n = 0;
-        for w in self.writes.as_slice() {
-            if w.is_in(column) {
-                n += 1;
-            }
-        }
-        Ok(n)
+        let standing = self.writes.as_slice().iter();
+        Ok(standing.filter(|s| s.write.column == column).count() as u32)
     }
 }

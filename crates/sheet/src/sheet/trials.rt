@@ -2,7 +2,7 @@
 ghost use Rattle.std.specs.Prelude.{◌≡◌, ◌≤◌, IfOk};
 ghost use Rattle.sheet.specs.Page.{page, opened, closed, since, struck_since};
 ghost use Rattle.sheet.specs.Rows.{rows_of};
-ghost use Rattle.sheet.specs.Calls.{Does, Untouched, Spends, open_refusal, slip_now, slip_refusal, lowest};
+ghost use Rattle.sheet.specs.Calls.{Does, Untouched, Answers, Spends, open_refusal, slip_now, slip_refusal, lowest};
 ghost use Rattle.sheet.specs.Laws.{SameBelow, Lowest, UndoesTrial};
 
 use super::Sheet;
@@ -10,15 +10,20 @@ use crate::slip::{Returned, Slip};
 use faults::Fault;
 
 impl Sheet<'_> {
+    fn may_open(&self) -> Result<(), Fault>
+        ensures { Answers (open_refusal (page self.now)) tt result }
+    {
+        if self.trial.is_some() {
+            return Err(Fault::TrialOpen);
+        }
+        Ok(())
+    }
+
     // Why no trial may be opened.
     pub fn open_refusal(&self) -> Option<Fault>
         ensures { result ≡ open_refusal (page self.now) }
     {
-        if self.trial.is_some() {
-            Some(Fault::TrialOpen)
-        } else {
-            None
-        }
+        self.may_open().err()
     }
 
     // Opens a trial, and hands out its slip.
@@ -27,9 +32,7 @@ impl Sheet<'_> {
         ensures kept { IfOk result (λ slip. slip.standing ≤ 1024) }
         ensures untouched { Untouched result self.old self.new }
     {
-        if let Some(fault) = self.open_refusal() {
-            return Err(fault);
-        }
+        self.may_open()?;
         let standing = self.writes.len() as u32;
         self.trial = Some(standing);
         Ok(Slip::new(standing))
@@ -50,6 +53,7 @@ impl Sheet<'_> {
         ensures outcome { Spends (slip_refusal (page self.old) slip) slip (page self.old) (closed (page self.old)) tt result (page self.new) }
         ensures untouched { Untouched result self.old self.new }
     {
+        // no `map_err`: its closure would own the slip in the other case too
         if let Some(fault) = self.slip_refusal(&slip) {
             return Err(Returned { fault, slip });
         }
@@ -66,6 +70,7 @@ impl Sheet<'_> {
         ensures undoes { UndoesTrial (page self.old) slip result (page self.new) }
         ensures untouched { Untouched result self.old self.new }
     {
+        // no `map_err`: its closure would own the slip in the other case too
         if let Some(fault) = self.slip_refusal(&slip) {
             return Err(Returned { fault, slip });
         }

@@ -1,27 +1,21 @@
-use Rattle.std.proofs.Common.{◌<◌, length, get_or, Some, None, ◌∙◌, arith}
-use Rattle.std.proofs.lemmas.List.{length-set, take_more_set}
-use Rattle.sheet.proofs.Chaining.{push_within, push_linked, push_headed}
-use Rattle.sheet.proofs.Widths.{count_is}
+use Rattle.std.proofs.Common.{◌≡◌, List, length, get_or, set, Some, None, sym, refl, ◌∙◌, subst, arith}
+use Rattle.std.proofs.lemmas.List.{length-set, length-map}
+use Rattle.sheet.specs.declared.write.Standing.{Standing}
+use Rattle.sheet.specs.Chains.{Chained}
+use Rattle.sheet.proofs.Chaining.{chained_push}
 use Rattle.sheet.proofs.list.WriteList.push.Goals as goal
 
 pub invariant_of-self : goal.invariant_of-self
 invariant_of-self c =
     let s = c.args.self.now in
-    let w = c.args.w in
-    let few : s.len < 1024 = omega (arith, c.requires.room, count_is s) in
-    let room : s.len < length s.items = omega (arith, few) in
-    let before = get_or s.latest w.cycle None in
+    let w = c.args.write in
+    let standing : Standing = record { write = w; previous = get_or s.latest w.cycle None } in
+    let long = length-map s.standing.items (λ (t : Standing). t.write) in
+    let place : c.len-place.result ≡ length s.standing.items = c.len-place.ensures ∙ long in
+    let latest = set s.latest w.cycle (Some c.len-place.result) in
+    let P : List Standing → Type 0 = λ xs. Chained xs latest in
     record {
-      room = length-set s.items s.len w ∙ s.room;
-      links = length-set s.previous s.len before ∙ s.links;
-      heads = length-set s.latest w.cycle (Some s.len) ∙ s.heads;
-      few = omega (arith, few);
-      within = push_within s.items s.len w room 4096 c.requires.cycle s.within;
-      linked = push_linked s.items s.len w room s.previous before (omega (arith, few)) (s.headed w.cycle (omega (arith, c.requires.cycle))) s.linked;
-      headed = push_headed s.items s.len w room s.latest s.headed;
+      heads = length-set s.latest w.cycle (Some c.len-place.result) ∙ s.heads;
+      few = omega (arith, c.push.ensures.len, c.requires.room, long);
+      chained = subst P (sym c.push.ensures.items) (chained_push s.standing.items s.latest standing s.chained c.len-place.result place (omega arith) refl);
     }
-
-pub returns : goal.returns
-returns c =
-    let s = c.args.self.now in
-    take_more_set s.items s.len c.args.w (omega (arith, c.requires.room, count_is s))
