@@ -43,10 +43,10 @@ once_each (e ∷ es) h =
     let p = and_parts (list_all (λ f. ltb e.key f.key) es) (ascending ltb es) h in
     (apart e.key es p.0, once_each es p.1)
 
-pub counted : (t : TableStore) (n : ℕ) → n ≡ count t → Counts (table_frames t) n
-counted t n e = record {
+pub counted : (t : TableStore) (n : ℕ) → n ≡ count t → ascending ltb (items t.rows) ≡ true → Counts (table_frames t) n
+counted t n e a = record {
   cycles = cycles_of (items t.rows);
   number = length-map (items t.rows) (λ e. e.key) ∙ sym e;
-  once = once_each (items t.rows) t.sorted;
+  once = once_each (items t.rows) a;
   each = each_cycle (items t.rows);
 }

@@ -52,3 +52,10 @@ right_stays = record {
   cut = λ row row' k f g same cut h. each_cut (λ q r. r ≡ row q) (λ q r. r ≡ row' q) k f g (λ q r l e. e ∙ sym (same q l)) cut h;
   emptied = λ row f e. each_emptied (λ q r. r ≡ row q) f e;
 }
+
+-- one cycle more, with what it is reached by
+pub visited : (rows : ℕ → Row) (from c n : ℕ) (f g h : Frames) (row : Row) → Keeps g n row h → n ≡ suc c → rows n ≡ row
+    → Visits rows from f c g → Visits rows from f n h
+visited rows from c n f g h row k e same v =
+    let k' : Keeps g n (rows n) h = subst (λ r. Keeps g n r h) (sym same) k in
+    subst (λ m. Visits rows from f m h) (sym e) (next v (subst (λ m. Keeps g m (rows m) h) e k'))

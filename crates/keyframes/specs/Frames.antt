@@ -32,11 +32,6 @@ abbrev pub Found : Frames → ℕ → Option ℕ → Type 0
 Found f t None = (d : ℕ) → d ≤ t → f.held d ≡ None
 Found f t (Some c) = (c ≤ t) × (is_some (f.held c) ≡ true) × ((d : ℕ) → c < d → d ≤ t → f.held d ≡ None)
 
--- the row held is written; or there is none, and nothing is written
-abbrev pub Fetched : Option Row → Row → Row → Bool → Type 0
-Fetched None was is r = (r ≡ false) × (is ≡ was)
-Fetched (Some row) was is r = (r ≡ true) × (is ≡ row)
-
 -- exactly the rows above c are gone
 pub record Cut (f : Frames) (c : ℕ) (f' : Frames) : Type 0 where
   pub below : (d : ℕ) → d ≤ c → f'.held d ≡ f.held d

@@ -1,12 +1,20 @@
 // What a move does to a store on its way.
-ghost use Rattle.std.specs.Prelude.{◌≡◌, ℕ, suc};
-ghost use Rattle.keyframes.specs.Chain.{Keeps, Visits};
+ghost use Rattle.std.specs.Prelude.{◌≡◌, ℕ, suc, true, map};
+ghost use Rattle.keyframes.specs.Chain.{due, Keeps, packed, Visits};
 ghost use Rattle.keyframes.specs.Frames.{Frames};
 ghost use Rattle.keyframes.specs.Right.{Right, RightStays};
+ghost use Rattle.values.specs.Packed.{state_of};
 ghost use Rattle.values.specs.declared.working.Row.{Row};
 
 use crate::store::KeyframeStore;
-use values::Row;
+use values::{Row, States};
+
+// Whether the row of a cycle just reached is put: every 32nd, if the store takes it.
+fn is_due<S: KeyframeStore>(store: &S, cycle: u32) -> bool
+    ensures { result ≡ due (S.means store.now) cycle }
+{
+    cycle % 32 == 0 && store.takes(cycle)
+}
 
 // On reaching a cycle divisible by 32, puts its row if the store takes it. Any chain of such puts that led here leads on,
 // and rows that are right stay right.
@@ -16,13 +24,17 @@ pub fn reach<S: KeyframeStore>(store: &mut S, cycle: u32, row: &Row)
     ensures right { (rows : ℕ → Row) → rows cycle ≡ row.now → Right rows (S.means store.old) → Right rows (S.means store.new) }
     ensures law { RightStays }
 {
-    put_if_due(store, cycle, row);
+    if is_due(store, cycle) {
+        store.put(cycle, row);
+    }
 }
 
-fn put_if_due<S: KeyframeStore>(store: &mut S, cycle: u32, row: &Row)
-    ensures { Keeps (S.means store.old) cycle row.now (S.means store.new) }
+// The same with states, whose row is made only where it is put; it gives the states back.
+pub fn reach_with<S: KeyframeStore>(store: &mut S, cycle: u32, states: &States)
+    ensures keeps { Keeps (S.means store.old) cycle (packed states.now.all) (S.means store.new) }
+    ensures back { due (S.means store.old) cycle ≡ true → map state_of (packed states.now.all).states ≡ states.now.all }
 {
-    if cycle % 32 == 0 && store.takes(cycle) {
-        store.put(cycle, row);
+    if is_due(store, cycle) {
+        store.put(cycle, &Row::from(states));
     }
 }

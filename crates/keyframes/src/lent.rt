@@ -24,8 +24,8 @@ impl<'b, S: KeyframeStore> KeyframeStore for Lent<'b, S> {
         self.below.find(cycle)
     }
 
-    fn fetch(&self, cycle: u32, out: &mut Row) -> bool {
-        self.below.fetch(cycle, out)
+    fn fetch(&self, cycle: u32) -> Option<Row> {
+        self.below.fetch(cycle)
     }
 
     fn cut(&mut self, cycle: u32) {

@@ -2,15 +2,13 @@
 #![tactic(auto)]
 
 mod chain;
-mod keyframe;
 mod lent;
 mod none;
 mod one;
 mod store;
 mod table;
 
-pub use chain::reach;
-pub use keyframe::Keyframe;
+pub use chain::{reach, reach_with};
 pub use lent::Lent;
 pub use none::NoStore;
 pub use one::OneStore;

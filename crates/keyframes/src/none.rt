@@ -24,8 +24,8 @@ impl KeyframeStore for NoStore {
         None
     }
 
-    fn fetch(&self, _cycle: u32, _out: &mut Row) -> bool {
-        false
+    fn fetch(&self, _cycle: u32) -> Option<Row> {
+        None
     }
 
     fn cut(&mut self, _cycle: u32) {}

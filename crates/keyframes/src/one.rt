@@ -3,13 +3,13 @@ ghost use Rattle.std.specs.Prelude.{◌≡◌, true, false, refl};
 ghost use Rattle.keyframes.specs.Frames.{Emptied, Only, Stored};
 ghost use Rattle.keyframes.specs.Stores.{one_frames};
 
-use crate::keyframe::Keyframe;
 use crate::store::KeyframeStore;
+use ordered::Entry;
 use values::Row;
 
 #[derive(Drop)]
 pub struct OneStore {
-    last: Option<Keyframe>,
+    last: Option<Entry<u32, Row>>,
 }
 
 impl OneStore {
@@ -36,31 +36,29 @@ impl KeyframeStore for OneStore {
         ensures refused { result ≡ false → self.new ≡ self.old }
         ensures only { Only cycle row.now (one_frames self.new) }
     {
-        self.last = Some(Keyframe { cycle, row: *row });
+        self.last = Some(Entry {
+            key: cycle,
+            value: *row,
+        });
         true
     }
 
     fn find(&self, cycle: u32) -> Option<u32> {
-        match &self.last {
-            Some(kept) if kept.cycle <= cycle => Some(kept.cycle),
-            _ => None,
-        }
+        self.last
+            .as_ref()
+            .filter(|kept| kept.key <= cycle)
+            .map(|kept| kept.key)
     }
 
-    fn fetch(&self, cycle: u32, out: &mut Row) -> bool {
-        match &self.last {
-            Some(kept) if kept.cycle == cycle => {
-                *out = kept.row;
-                true
-            }
-            _ => false,
-        }
+    fn fetch(&self, cycle: u32) -> Option<Row> {
+        self.last
+            .as_ref()
+            .filter(|kept| kept.key == cycle)
+            .map(|kept| kept.value)
     }
 
     fn cut(&mut self, cycle: u32) {
-        if let Some(kept) = &self.last
-            && kept.cycle > cycle
-        {
+        if self.last.as_ref().is_some_and(|kept| kept.key > cycle) {
             self.last = None;
         }
     }

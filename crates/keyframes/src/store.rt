@@ -1,6 +1,6 @@
 // What every store of keyframes does.
 ghost use Rattle.std.specs.Prelude.{◌≡◌, true, false};
-ghost use Rattle.keyframes.specs.Frames.{Cut, Emptied, Fetched, Found, Frames, Retakes, Stored};
+ghost use Rattle.keyframes.specs.Frames.{Cut, Emptied, Found, Frames, Retakes, Stored};
 
 use values::Row;
 
@@ -14,7 +14,8 @@ pub trait KeyframeStore {
     fn takes(&self, cycle: u32) -> bool
         ensures { result ≡ (means self.now).takes cycle };
 
-    // Keeps a row, where the cycle's row is taken; it may let go of others. Else nothing changes.
+    // Keeps a row, where the cycle's row is taken; it may let go of others. Else nothing changes. The answer is that of
+    // `takes`, so a refusal has nothing more to say.
     fn put(&mut self, cycle: u32, row: &Row) -> bool
         ensures answer { result ≡ (means self.old).takes cycle }
         ensures stored { result ≡ true → Stored (means self.old) cycle row.now (means self.new) }
@@ -24,9 +25,9 @@ pub trait KeyframeStore {
     fn find(&self, cycle: u32) -> Option<u32>
         ensures { Found (means self.now) cycle result };
 
-    // Writes a held cycle's row to `out`; false, and nothing written, for any other cycle.
-    fn fetch(&self, cycle: u32, out: &mut Row) -> bool
-        ensures { Fetched ((means self.now).held cycle) out.old out.new result };
+    // A held cycle's row, by value, since a store may keep its rows in another form.
+    fn fetch(&self, cycle: u32) -> Option<Row>
+        ensures { result ≡ (means self.now).held cycle };
 
     // Removes the rows above a cycle.
     fn cut(&mut self, cycle: u32)

@@ -1,12 +1,16 @@
 -- Look-ups among entries in ascending order, and the place that a search gives. Assumes nothing.
-use Rattle.std.proofs.Common.{◌≡◌, ℕ, zero, suc, ◌-◌, ◌<◌, ◌≤◌, Bool, true, false, cond, not, ◌&&◌, List, [], ◌∷◌, ◌++◌, length, get_or, take, drop, Some, None, Option, sym, refl, ap, ◌∙◌, subst, arith, take-append-drop}
+use Rattle.std.proofs.Common.{◌≡◌, ℕ, zero, suc, ◌-◌, ◌<◌, ◌≤◌, Bool, true, false, cond, not, ◌&&◌, List, [], ◌∷◌, ◌++◌, length, get_or, take, drop, Some, None, Option, slice_get, sym, refl, ap, ◌∙◌, subst, ⊎_elim, inl, inr, arith, take-append-drop}
 use Rattle.std.specs.List.{list_all}
-use Rattle.std.proofs.lemmas.Bool.{both_ways, not-true, and_parts, and_from, not_from_false}
+use Rattle.std.proofs.lemmas.Bool.{both_ways, not-true, and_parts, and_from, not_from_false, cases_lt}
+use Rattle.std.proofs.lemmas.List.{get_or_read, get_or-take, length-take-le}
+use Rattle.std.proofs.lemmas.List.Elements.{All-take}
+use Rattle.std.proofs.lemmas.List.Sums.{AllPass-from_list_all, list_all-from_AllPass}
+use Rattle.std.proofs.lemmas.Option.{slice_get_cases}
 use Rattle.ordered.specs.declared.entry.Entry.{Entry}
 use Rattle.ordered.specs.Order.{TotalOrder}
 use Rattle.ordered.specs.Entries.{level, ascending, at, Floor}
 use Rattle.ordered.specs.Search.{Parts}
-use Rattle.ordered.proofs.Tested.{all_pass_at, all_pass_weaker, all_pass_between, all_pass_in_place, all_pass_take}
+use Rattle.ordered.proofs.Tested.{all_front, all_back, all_pass_between, all_pass_in_place}
 
 -- ---- the order
 
@@ -52,45 +56,12 @@ module _ {K : Type 0} (before : K → K → Bool) (o : TotalOrder before) where
     abbrev keyed : (K → Bool) → Entry K V → Bool
     keyed t e = t e.key
 
-    -- a test that holds of each key before one of which it holds
-    pub front : (t : K → Bool) → ((x y : K) → before x y ≡ true → t y ≡ true → t x ≡ true)
-        → (es : List (Entry K V)) (n : ℕ) → ascending before es ≡ true → n ≤ length es
-        → ((m : ℕ) (d : Entry K V) → n ≡ suc m → t (get_or es m d).key ≡ true)
-        → list_all (keyed t) (take n es) ≡ true
-    front t down es zero a le h = refl
-    front t down [] (suc n) a le h = refl
-    front t down (e ∷ es) (suc n) a le h =
-        let p = and_parts (list_all (λ f. before e.key f.key) es) (ascending before es) a in
-        and_from (t e.key) (list_all (keyed t) (take n es))
-        (first n refl p.0)
-        (front t down es n p.1 (omega arith) (λ m d k. h (suc m) d (ap suc k)))
-      where
-        first : (m : ℕ) → n ≡ m → list_all (λ f. before e.key f.key) es ≡ true → t e.key ≡ true
-        first zero k q = h zero e (ap suc k)
-        first (suc m) k q =
-            down e.key (get_or es m e).key (all_pass_at (λ f. before e.key f.key) es m e (omega arith) q) (h (suc m) e (ap suc k))
-
-    -- a test that holds of each key after one of which it holds
-    back : (t : K → Bool) → ((x y : K) → before x y ≡ true → t x ≡ true → t y ≡ true)
-        → (es : List (Entry K V)) (n : ℕ) → ascending before es ≡ true
-        → ((d : Entry K V) → n < length es → t (get_or es n d).key ≡ true)
-        → list_all (keyed t) (drop n es) ≡ true
-    back t up [] zero a h = refl
-    back t up [] (suc n) a h = refl
-    back t up (e ∷ es) zero a h =
-        let p = and_parts (list_all (λ f. before e.key f.key) es) (ascending before es) a in
-        let te : t e.key ≡ true = h e (omega arith) in
-        and_from (t e.key) (list_all (keyed t) es) te
-        (all_pass_weaker (λ f. before e.key f.key) (keyed t) (λ f b. up e.key f.key b te) es p.0)
-    back t up (e ∷ es) (suc n) a h =
-        back t up es n (and_parts (list_all (λ f. before e.key f.key) es) (ascending before es) a).1 (λ d l. h d (omega arith))
-
     pub before_places : (es : List (Entry K V)) (i j : ℕ) (d : Entry K V) → ascending before es ≡ true → i < j → j < length es
         → before (get_or es i d).key (get_or es j d).key ≡ true
     before_places [] i j d a l h = absurd (omega arith)
     before_places (e ∷ es) i zero d a l h = absurd (omega arith)
     before_places (e ∷ es) zero (suc j) d a l h =
-        all_pass_at (keyed (before e.key)) es j d (omega arith) (and_parts (list_all (keyed (before e.key)) es) (ascending before es) a).0
+        AllPass-from_list_all (keyed (before e.key)) es (and_parts (list_all (keyed (before e.key)) es) (ascending before es) a).0 j d (omega arith)
     before_places (e ∷ es) (suc i) (suc j) d a l h =
         before_places es i j d (and_parts (list_all (keyed (before e.key)) es) (ascending before es) a).1 (omega arith) (omega arith)
 
@@ -152,7 +123,9 @@ module _ {K : Type 0} (before : K → K → Bool) (o : TotalOrder before) where
     ascending_take (e ∷ es) (suc n) a =
         let p = and_parts (list_all (keyed (before e.key)) es) (ascending before es) a in
         and_from (list_all (keyed (before e.key)) (take n es)) (ascending before (take n es))
-        (all_pass_take (keyed (before e.key)) es n p.0) (ascending_take es n p.1)
+        (list_all-from_AllPass (keyed (before e.key)) (take n es)
+        (All-take (λ f. before e.key f.key ≡ true) n es (AllPass-from_list_all (keyed (before e.key)) es p.0)))
+        (ascending_take es n p.1)
 
     -- the entry at a place is found
     pub at_place : (es : List (Entry K V)) (i : ℕ) (d : Entry K V) → ascending before es ≡ true → i < length es
@@ -161,32 +134,18 @@ module _ {K : Type 0} (before : K → K → Bool) (o : TotalOrder before) where
     at_place (e ∷ es) zero d a l = rw (level_itself e.key)
     at_place (e ∷ es) (suc i) d a l =
         let p = and_parts (list_all (keyed (before e.key)) es) (ascending before es) a in
-        let b = all_pass_at (keyed (before e.key)) es i d (omega arith) p.0 in
+        let b = AllPass-from_list_all (keyed (before e.key)) es p.0 i d (omega arith) in
         let n : level before e.key (get_or es i d).key ≡ false = rw b in
         rw n (at_place es i d p.1 (omega arith))
 
     -- ---- the place that a search gives
 
     module _ (es : List (Entry K V)) (a : ascending before es ≡ true) (q : K) (n : ℕ) (parts : Parts before es q n) where
-      at_or_before : (m : ℕ) (d : Entry K V) → n ≡ suc m → before q (get_or es m d).key ≡ false
-      at_or_before m d k =
-          let e : n - 1 ≡ m = omega arith in
-          subst (λ w. before q (get_or es w d).key ≡ false) e (parts.under d (omega arith))
-
       pub front_passes : list_all (keyed (λ k. not (before q k))) (take n es) ≡ true
-      front_passes =
-          front (λ k. not (before q k)) (λ x y b h. not_from_false (before q x) (down x y b (not-true (before q y) h))) es n a parts.within
-          (λ m d k. not_from_false (before q (get_or es m d).key) (at_or_before m d k))
-        where
-          down : (x y : K) → before x y ≡ true → before q y ≡ false → before q x ≡ false
-          down x y b h = by (before q x) refl
-            where
-              by : (c : Bool) → before q x ≡ c → c ≡ false
-              by true e = absurd (both_ways (before q y) h (o.transitive q x y e b))
-              by false e = refl
+      front_passes = all_front (keyed (λ k. not (before q k))) n es (λ k d l. not_from_false (before q (get_or es k d).key) (parts.under k d l))
 
       pub back_passes : list_all (keyed (before q)) (drop n es) ≡ true
-      back_passes = back (before q) (λ x y b h. o.transitive q x y h b) es n a parts.over
+      back_passes = all_back (keyed (before q)) n es parts.over
 
       -- the entries up to the place are those at or before q
       pub at_cut : (x : K) → at before (take n es) x ≡ cond (before q x) None (at before es x)
@@ -198,41 +157,48 @@ module _ {K : Type 0} (before : K → K → Bool) (o : TotalOrder before) where
               sym (at_left (take n es) (drop n es) x (at_missing (before q) (drop n es) x back_passes e))
               ∙ ap (λ l. at before l x) (take-append-drop n es)
 
-      pub floor_none : n ≡ 0 → Floor before es q None
+      floor_none : n ≡ 0 → Floor before es q None
       floor_none z x h =
           let e : at before (take 0 es) x ≡ cond (before q x) None (at before es x) = subst (λ w. at before (take w es) x ≡ cond (before q x) None (at before es x)) z (at_cut x) in
           sym (e ∙ ap (λ b. cond b None (at before es x)) h)
 
-      pub floor_some : (m : ℕ) (e : Entry K V) → n ≡ suc m → ((d : Entry K V) → e ≡ get_or es m d) → Floor before es q (Some e)
+      floor_some : (m : ℕ) (e : Entry K V) → n ≡ suc m → ((d : Entry K V) → e ≡ get_or es m d) → Floor before es q (Some e)
       floor_some m e z is =
           let l : m < length es = omega (arith, parts.within) in (
-            ap (λ w. before q w.key) (is e) ∙ at_or_before m e z,
+            ap (λ w. before q w.key) (is e) ∙ parts.under m e (omega arith),
             subst (λ w. at before es w.key ≡ Some w.value) (sym (is e)) (at_place es m e a l),
             λ x h k.
                 sym (at_cut x ∙ ap (λ b. cond b None (at before es x)) k)
                 ∙ at_missing (λ w. not (before e.key w)) (take n es) x up_to (ap not h),
           )
         where
-          down : (x y : K) → before x y ≡ true → not (before e.key y) ≡ true → not (before e.key x) ≡ true
-          down x y b h = by (before e.key x) refl
-            where
-              by : (c : Bool) → before e.key x ≡ c → not c ≡ true
-              by true k = absurd (both_ways (before e.key y) (not-true (before e.key y) h) (o.transitive e.key x y k b))
-              by false k = refl
-
           up_to : list_all (keyed (λ w. not (before e.key w))) (take n es) ≡ true
-          up_to =
-              front (λ w. not (before e.key w)) down es n a parts.within
-              (λ m' d k.
-              let s : m ≡ m' = omega arith in
-              subst (λ w. not (before e.key w.key) ≡ true) (is d ∙ ap (λ w. get_or es w d) s)
-              (ap not (o.irreflexive e.key)))
+          up_to = all_front (keyed (λ w. not (before e.key w))) n es (λ k d l. not_from_false (before e.key (get_or es k d).key) (⊎_elim
+              (λ (b : k < m). subst (λ w. before w.key (get_or es k d).key ≡ false) (sym (is d)) (asymmetric (get_or es k d).key (get_or es m d).key (before_places es k m d a b (omega (arith, parts.within)))))
+              (λ (b : m ≤ k). let s : m ≡ k = omega arith in subst (λ w. before e.key w.key ≡ false) (is d ∙ ap (λ i. get_or es i d) s) (o.irreflexive e.key))
+              (cases_lt k m)))
 
-      module _ (apart : (d : Entry K V) → 0 < n → before (get_or es (n - 1) d).key q ≡ true) where
+      -- the last of them is q's floor
+      pub floored : Floor before es q (slice_get (take n es) (length (take n es) - 1))
+      floored = by n refl
+        where
+          size : length (take n es) ≡ n
+          size = length-take-le n es parts.within
+
+          by : (m : ℕ) → n ≡ m → Floor before es q (slice_get (take n es) (length (take n es) - 1))
+          by zero z = subst (λ w. Floor before es q (slice_get (take w es) (length (take w es) - 1))) (sym z) (floor_none z)
+          by (suc m) z =
+              let s = size in
+              let i : length (take n es) - 1 ≡ m = omega arith in
+              elim (slice_get_cases (take n es) m).1 [
+                | inl h ↦ subst (Floor before es q) (sym (ap (slice_get (take n es)) i ∙ h.2))
+                    (floor_some m h.0 z (get_or_read es m h.0 (omega (arith, parts.within)) (sym h.3 ∙ get_or-take n es m h.0 (omega arith))))
+                | inr h ↦ absurd (omega (arith, h.0))
+              ]
+
+      module _ (apart : (k : ℕ) (d : Entry K V) → k < n → before (get_or es k d).key q ≡ true) where
         pub front_before : list_all (keyed (λ k. before k q)) (take n es) ≡ true
-        front_before =
-            front (λ k. before k q) (λ x y b h. o.transitive x y q b h) es n a parts.within
-            (λ m d k. let e : n - 1 ≡ m = omega arith in subst (λ w. before (get_or es w d).key q ≡ true) e (apart d (omega arith)))
+        front_before = all_front (keyed (λ k. before k q)) n es apart
 
         pub front_missing : at before (take n es) q ≡ None
         front_missing = at_missing (λ k. before k q) (take n es) q front_before (o.irreflexive q)

@@ -1,5 +1,5 @@
 -- What a put leaves, in each of its cases. Assumes nothing.
-use Rattle.std.proofs.Common.{◌≡◌, ℕ, suc, ◌+◌, ◌-◌, ◌<◌, ◌≤◌, Bool, true, false, cond, not, ◌&&◌, ◌||◌, ltb, List, ◌∷◌, ◌++◌, length, get_or, take, drop, set, is_some, Some, None, sym, refl, ap, ◌∙◌, subst, arith, length-set, take-append-drop}
+use Rattle.std.proofs.Common.{◌≡◌, ℕ, suc, ◌+◌, ◌<◌, ◌≤◌, Bool, true, false, cond, not, ◌&&◌, ◌||◌, ltb, List, ◌∷◌, ◌++◌, length, get_or, take, drop, set, is_some, Some, None, sym, refl, ap, ◌∙◌, subst, arith, length-set, take-append-drop}
 use lib.Seq.{split_at}
 use Rattle.std.specs.List.{insert}
 use Rattle.std.proofs.lemmas.List.Edits.{length-insert}
@@ -9,7 +9,8 @@ use Rattle.ordered.specs.declared.entry.Entry.{Entry}
 use Rattle.ordered.specs.Order.{TotalOrder}
 use Rattle.ordered.specs.Entries.{level, ascending, at, Placed}
 use Rattle.ordered.specs.Search.{Parts}
-use Rattle.ordered.proofs.Lookup.{at_new, front_before, front_missing, back_passes, at_between, at_place, at_missing, ascending_between, ascending_in_place, front, before_places}
+use Rattle.ordered.proofs.Lookup.{at_new, front_before, front_missing, back_passes, at_between, at_place, at_missing, ascending_between, ascending_in_place, before_places}
+use Rattle.ordered.proofs.Tested.{all_front}
 
 twice : {X : Type 0} (b : Bool) (u w r : X) → cond b u (cond b w r) ≡ cond b u r
 twice true u w r = refl
@@ -21,7 +22,7 @@ module _ {K : Type 0} (before : K → K → Bool) (o : TotalOrder before) {V : T
   entry = record { key = k; value = v }
 
   -- k is new, and belongs at i
-  module _ (i : ℕ) (parts : Parts before es k i) (apart : (d : Entry K V) → 0 < i → before (get_or es (i - 1) d).key k ≡ true) where
+  module _ (i : ℕ) (parts : Parts before es k i) (apart : (j : ℕ) (d : Entry K V) → j < i → before (get_or es j d).key k ≡ true) where
     new : at before es k ≡ None
     new = at_new before o es a k i parts apart
 
@@ -69,8 +70,7 @@ module _ {K : Type 0} (before : K → K → Bool) (o : TotalOrder before) {V : T
     missing : at before (take i es) k ≡ None
     missing =
         at_missing before o (λ w. before w k) (take i es) k
-        (front before o (λ w. before w k) (λ x y b h. o.transitive x y k b h) es i a (omega (arith, within))
-        (λ m d e. subst (λ w. before (get_or es m d).key w ≡ true) (same d) (before_places before o es m i d a (omega arith) within)))
+        (all_front (λ e. before e.key k) i es (λ j d l. subst (λ w. before (get_or es j d).key w ≡ true) (same d) (before_places before o es j i d a l within)))
         (o.irreflexive k)
 
     pub placed_over : Placed before room es (set es i entry) k v true

@@ -1,21 +1,21 @@
 -- A test that holds of each item of a list. Assumes nothing.
-use Rattle.std.proofs.Common.{◌≡◌, ℕ, zero, suc, ◌<◌, Bool, true, false, cond, ◌&&◌, List, [], ◌∷◌, ◌++◌, length, get_or, take, drop, filter, sym, refl, ap, ◌∙◌, append-nil, arith, take-append-drop}
+use Rattle.std.proofs.Common.{◌≡◌, ℕ, ◌+◌, ◌<◌, ◌≤◌, Bool, true, false, cond, ◌&&◌, List, [], ◌∷◌, ◌++◌, length, get_or, take, drop, filter, sym, refl, ap, ◌∙◌, subst, append-nil, arith, take-append-drop, length-take, length-drop}
 use Rattle.std.specs.List.{list_all}
+use Rattle.std.proofs.lemmas.List.{get_or-take, get_or-drop}
 use Rattle.std.proofs.lemmas.List.Elements.{filter-append}
+use Rattle.std.proofs.lemmas.List.Sums.{list_all-from_AllPass}
 use Rattle.std.proofs.lemmas.Bool.{and_parts, and_from}
 
 module _ {X : Type 0} where
-  pub all_pass_at : (p : X → Bool) (xs : List X) (i : ℕ) (d : X) → i < length xs → list_all p xs ≡ true → p (get_or xs i d) ≡ true
-  all_pass_at p [] i d l h = absurd (omega arith)
-  all_pass_at p (x ∷ xs) zero d l h = (and_parts (p x) (list_all p xs) h).0
-  all_pass_at p (x ∷ xs) (suc i) d l h = all_pass_at p xs i d (omega arith) (and_parts (p x) (list_all p xs) h).1
+  -- a test that holds at each of the first n places, and one that holds at each place from n on
+  pub all_front : (p : X → Bool) (n : ℕ) (xs : List X) → ((k : ℕ) (d : X) → k < n → p (get_or xs k d) ≡ true) → list_all p (take n xs) ≡ true
+  all_front p n xs h = list_all-from_AllPass p (take n xs) (λ k d l.
+      let b : k < n = omega (arith, length-take n xs) in
+      subst (λ x. p x ≡ true) (sym (get_or-take n xs k d b)) (h k d b))
 
-  pub all_pass_weaker : (p t : X → Bool) → ((x : X) → p x ≡ true → t x ≡ true) → (xs : List X) → list_all p xs ≡ true → list_all t xs ≡ true
-  all_pass_weaker p t w [] h = refl
-  all_pass_weaker p t w (x ∷ xs) h =
-      and_from (t x) (list_all t xs)
-      (w x (and_parts (p x) (list_all p xs) h).0)
-      (all_pass_weaker p t w xs (and_parts (p x) (list_all p xs) h).1)
+  pub all_back : (p : X → Bool) (n : ℕ) (xs : List X) → ((k : ℕ) (d : X) → n ≤ k → k < length xs → p (get_or xs k d) ≡ true) → list_all p (drop n xs) ≡ true
+  all_back p n xs h = list_all-from_AllPass p (drop n xs) (λ k d l.
+      subst (λ x. p x ≡ true) (sym (get_or-drop n xs k d)) (h (n + k) d (omega arith) (omega (arith, length-drop n xs))))
 
   pub all_pass_between : (p : X → Bool) (xs ys : List X) (y : X) → p y ≡ true → list_all p (xs ++ ys) ≡ true → list_all p (xs ++ y ∷ ys) ≡ true
   all_pass_between p [] ys y h a = and_from (p y) (list_all p ys) h a
@@ -27,13 +27,6 @@ module _ {X : Type 0} where
   pub all_pass_in_place : (p : X → Bool) (xs ys : List X) (y z : X) → p z ≡ p y → list_all p (xs ++ z ∷ ys) ≡ list_all p (xs ++ y ∷ ys)
   all_pass_in_place p [] ys y z e = ap (λ b. b && list_all p ys) e
   all_pass_in_place p (x ∷ xs) ys y z e = ap (λ b. p x && b) (all_pass_in_place p xs ys y z e)
-
-  pub all_pass_take : (p : X → Bool) (xs : List X) (n : ℕ) → list_all p xs ≡ true → list_all p (take n xs) ≡ true
-  all_pass_take p xs zero h = refl
-  all_pass_take p [] (suc n) h = refl
-  all_pass_take p (x ∷ xs) (suc n) h =
-      let a = and_parts (p x) (list_all p xs) h in
-      and_from (p x) (list_all p (take n xs)) a.0 (all_pass_take p xs n a.1)
 
   -- a filter keeps what passes, and only that
   kept_all : (p : X → Bool) (xs : List X) → list_all p xs ≡ true → filter p xs ≡ xs

@@ -2,14 +2,15 @@
 #![tactic(auto)]
 
 mod entry;
+mod full;
 mod insert;
 mod key;
 mod keys;
 mod name;
-mod search;
 mod table;
 
 pub use entry::Entry;
+pub use full::Full;
 pub use key::Key;
 pub use name::Name;
 pub use table::OrderedTable;

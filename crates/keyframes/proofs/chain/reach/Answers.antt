@@ -1,19 +1,22 @@
-use Rattle.std.proofs.Common.{◌≡◌, sym, subst}
-use Rattle.keyframes.specs.Chain.{Keeps, Visits, next}
-use Rattle.keyframes.proofs.Staying.{each_keeps, right_stays}
+use Rattle.std.proofs.Common.{rules}
+use Rattle.keyframes.specs.Chain.{Keeps}
+use Rattle.keyframes.proofs.Staying.{right_stays, visited}
 use Rattle.keyframes.proofs.chain.reach.Goals as goal
 
-pub returns : goal.returns
-returns g c =
+pub returns-then-is_due-clause-visits : goal.returns-then-is_due-clause-visits
+returns-then-is_due-clause-visits g c rows from d f e same v =
     let means = g.S.KeyframeStore.means in
-    let f = means c.args.store.now in
-    let h = means c.put_if_due.new.store in
-    let k : Keeps f c.args.cycle c.args.row.now h = c.put_if_due.ensures in
-    record {
-      keeps = k;
-      visits = λ rows from d first e same v.
-          let k' : Keeps f c.args.cycle (rows c.args.cycle) h = subst (λ r. Keeps f c.args.cycle r h) (sym same) k in
-          subst (λ n. Visits rows from first n h) (sym e) (next v (subst (λ n. Keeps f n (rows n) h) e k'));
-      right = λ rows same now. each_keeps (λ q r. r ≡ rows q) f c.args.cycle c.args.row.now h k (sym same) now;
-      law = right_stays;
-    }
+    let k : Keeps (means c.args.store.now) c.args.cycle c.args.row.now (means c.put.new.self) = search rules in
+    visited rows from d _ f _ _ _ k e same v
+
+pub returns-then-is_due-clause-law : goal.returns-then-is_due-clause-law
+returns-then-is_due-clause-law g c = right_stays
+
+pub returns-else-is_due-clause-visits : goal.returns-else-is_due-clause-visits
+returns-else-is_due-clause-visits g c rows from d f e same v =
+    let means = g.S.KeyframeStore.means in
+    let k : Keeps (means c.args.store.now) c.args.cycle c.args.row.now (means c.args.store.now) = search rules in
+    visited rows from d _ f _ _ _ k e same v
+
+pub returns-else-is_due-clause-law : goal.returns-else-is_due-clause-law
+returns-else-is_due-clause-law g c = right_stays

@@ -1,11 +1,10 @@
-use Rattle.std.proofs.Common.{sym, subst}
+use Rattle.std.proofs.Common.{sym, subst, ◌≡◌, rules}
+use Rattle.marks.specs.Marks.{mark}
 use Rattle.marks.specs.Puts.{Latest}
 use Rattle.marks.proofs.Latest.{latest}
 use Rattle.marks.proofs.table.MarkTable.get.Goals as goal
 
-pub returns : goal.returns
-returns c = record {
-  value = c.cycle_of.ensures;
-  latest = λ t puts blank runs.
-      subst (Latest puts c.args.name) (sym c.cycle_of.ensures) (latest t puts c.args.self.now blank runs c.args.name);
-}
+pub returns-clause-latest : goal.returns-clause-latest
+returns-clause-latest c t puts blank runs =
+    let value : c.copied.result ≡ mark c.args.self.now c.args.name = search rules in
+    subst (Latest puts c.args.name) (sym value) (latest t puts c.args.self.now blank runs c.args.name)

@@ -1,8 +1,0 @@
-use values::Row;
-
-// A row and its cycle.
-#[derive(Clone, Copy)]
-pub struct Keyframe {
-    pub cycle: u32,
-    pub row: Row,
-}
