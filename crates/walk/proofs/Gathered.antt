@@ -1,5 +1,5 @@
 -- The inputs of a block, gathered from its sources.
-use Rattle.std.proofs.Common.{◌≡◌, ℕ, ◌+◌, ◌-◌, ◌<◌, List, [], ◌∷◌, ◌++◌, map, length, get_or, take, set, Some, vec_items, sym, ap, ◌∙◌, arith}
+use Rattle.std.proofs.Common.{◌≡◌, ℕ, ◌+◌, ◌<◌, List, [], ◌∷◌, ◌++◌, map, length, get_or, take, set, Some, vec_items, sym, ap, ◌∙◌}
 use Rattle.std.proofs.lemmas.List.{take_more_set, map_more}
 use Rattle.values.specs.declared.scalar.State.{State}
 use Rattle.values.specs.declared.scalar.Value.{Value}
@@ -13,16 +13,15 @@ pub gathered_more : (f : Source → Value) (all : List Value) (sources : List So
 gathered_more f all sources i d v room there value before =
     take_more_set all i v room ∙ ap (λ l. l ++ v ∷ []) before ∙ ap (λ w. map f (take i sources) ++ w ∷ []) value ∙ sym (map_more f sources i d there)
 
-module _ (L : Library) (b : Block) (s : State) (row : List Value) (x : ℕ → Value) (kind : ℕ) (params : List Value) (sources : List Source) (all : List Value) (len : ℕ)
-    (kind_is : kind ≡ b.kind) (params_are : params ≡ vec_items b.params) (sources_are : sources ≡ vec_items b.sources) (gathered : take len all ≡ map (read row x) sources) where
-  -- a slice from 0 has its length less 0
-  inputs_are : take (len - 0) all ≡ inputs_of b row x
-  inputs_are = ap (λ n. take n all) (omega arith) ∙ gathered ∙ ap (map (read row x)) sources_are
+module _ (L : Library) (b : Block) (s : State) (row : List Value) (x : ℕ → Value) (kind : ℕ) (params : List Value) (sources : List Source) (inputs : List Value)
+    (kind_is : kind ≡ b.kind) (params_are : params ≡ vec_items b.params) (sources_are : sources ≡ vec_items b.sources) (gathered : inputs ≡ map (read row x) sources) where
+  inputs_are : inputs ≡ inputs_of b row x
+  inputs_are = gathered ∙ ap (map (read row x)) sources_are
 
-  pub out_is : (r : Value) → r ≡ L.out kind params s (take (len - 0) all) → r ≡ out_at L (Some b) s row x
+  pub out_is : (r : Value) → r ≡ L.out kind params s inputs → r ≡ out_at L (Some b) s row x
   unfolding out_at
-  out_is r e = e ∙ ap (λ k. L.out k params s (take (len - 0) all)) kind_is ∙ ap (λ ps. L.out b.kind ps s (take (len - 0) all)) params_are ∙ ap (L.out b.kind (vec_items b.params) s) inputs_are
+  out_is r e = e ∙ ap (λ k. L.out k params s inputs) kind_is ∙ ap (λ ps. L.out b.kind ps s inputs) params_are ∙ ap (L.out b.kind (vec_items b.params) s) inputs_are
 
-  pub next_is : (r : State) → r ≡ L.next kind params s (take (len - 0) all) → r ≡ next_at L (Some b) s row x
+  pub next_is : (r : State) → r ≡ L.next kind params s inputs → r ≡ next_at L (Some b) s row x
   unfolding next_at
-  next_is r e = e ∙ ap (λ k. L.next k params s (take (len - 0) all)) kind_is ∙ ap (λ ps. L.next b.kind ps s (take (len - 0) all)) params_are ∙ ap (L.next b.kind (vec_items b.params) s) inputs_are
+  next_is r e = e ∙ ap (λ k. L.next k params s inputs) kind_is ∙ ap (λ ps. L.next b.kind ps s inputs) params_are ∙ ap (L.next b.kind (vec_items b.params) s) inputs_are

@@ -1,7 +1,7 @@
 -- The places of a drawing: one that is lent, and one with no block.
 use Rattle.std.proofs.Common.{◌≡◌, ℕ, ◌<◌, ◌≤◌, List, length, get_or, Some, vec_items, sym, refl, ap, ◌∙◌}
 use Rattle.std.specs.List.{slice_get}
-use Rattle.std.proofs.lemmas.Option.{slice_get_past, slice_get_read, slice_get-get_or}
+use Rattle.std.proofs.lemmas.Option.{slice_get_past, slice_get_read}
 use Rattle.values.specs.declared.scalar.State.{State}
 use Rattle.values.specs.declared.scalar.Value.{Value}
 use Rattle.values.specs.Values.{absent, idle}
@@ -12,9 +12,6 @@ use Rattle.walk.specs.Cycle.{out_at, next_at, first_at}
 -- an element of a list that is lent as a slice
 pub lent_at : {A : Type 0} (slice items : List A) (i : ℕ) (x : A) → slice ≡ items → i < length slice → x ≡ get_or slice i x → slice_get items i ≡ Some x
 lent_at slice items i x same inside is = ap (λ l. slice_get l i) (sym same) ∙ slice_get_read slice (length slice) i x refl inside is
-
-pub lent_read : {A : Type 0} (slice items : List A) (i : ℕ) (d : A) → slice ≡ items → i < length slice → slice_get items i ≡ Some (get_or slice i d)
-lent_read slice items i d same inside = ap (λ l. slice_get l i) (sym same) ∙ slice_get-get_or slice i d inside
 
 module _ (L : Library) (bs : List Block) (k : ℕ) (past : length bs ≤ k) where
   pub next_past : (s : State) (row : List Value) (x : ℕ → Value) → next_at L (slice_get bs k) s row x ≡ idle

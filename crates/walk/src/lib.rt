@@ -3,10 +3,9 @@
 
 mod cycle;
 mod laws;
+mod machine;
 mod opening;
 mod walking;
 
-pub use cycle::{begin, pass, work};
 pub use laws::laws_hold;
-pub use opening::opens;
-pub use walking::walk;
+pub use machine::Machine;

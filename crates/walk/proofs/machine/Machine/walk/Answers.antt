@@ -6,7 +6,7 @@ use Rattle.walk.specs.Opening.{blocks_of}
 use Rattle.walk.specs.Outcome.{closed, beyond}
 use Rattle.walk.specs.Walk.{start, Walks, values_in}
 use Rattle.walk.proofs.Steps.{walks_on, finds_here, only_found, any_order}
-use Rattle.walk.proofs.walking.walk.Goals as goal
+use Rattle.walk.proofs.machine.Machine.walk.Goals as goal
 
 pub returns-in_err-opens : goal.returns-in_err-opens
 returns-in_err-opens g c =
@@ -21,14 +21,14 @@ loop-c-init g c = start c.begin-states.ensures
 
 pub loop-c-preserved : goal.loop-c-preserved
 loop-c-preserved g c =
-    walks_on (g.L.BlockLibrary.meaning c.args.library.now) (g.met.L.BlockLibrary.sound c.args.library.now) c.args.drawing.now c.in_ok-opens.ensures.fitting
+    walks_on (g.L.BlockLibrary.meaning c.args.self.now.library.now) (g.met.L.BlockLibrary.sound c.args.self.now.library.now) c.args.self.now.drawing.now c.in_ok-opens.ensures.fitting
     (rows_of (page c.args.sheet.now)) c.as_slice.result.now c.loop-c.c (ap values_in c.as_slice.ensures ∙ c.row-row.ensures.values) c.loop-c.states.all _ c.loop-c.invariant c.step-states.ensures
 
 pub returns : goal.returns
 returns g c =
-    let L = g.L.BlockLibrary.meaning c.args.library.now in
-    let sound = g.met.L.BlockLibrary.sound c.args.library.now in
-    let d = c.args.drawing.now in
+    let L = g.L.BlockLibrary.meaning c.args.self.now.library.now in
+    let sound = g.met.L.BlockLibrary.sound c.args.self.now.library.now in
+    let d = c.args.self.now.drawing.now in
     let rows = rows_of (page c.args.sheet.now) in
     let opened = c.in_ok-opens.ensures in
     let end : c.loop-c.c ≡ c.args.cycle = omega arith in

@@ -1,7 +1,7 @@
 use Rattle.std.proofs.Common.{sym, refl, ◌∙◌, arith}
 use borrow.Author.Tests.{both_ways}
 use Rattle.walk.specs.Opening.{no_rows, other_columns, other_library}
-use Rattle.walk.proofs.opening.opens.Goals as goal
+use Rattle.walk.proofs.machine.Machine.opens.Goals as goal
 
 pub returns-then-rows-eq0 : goal.returns-then-rows-eq0
 returns-then-rows-eq0 g c = no_rows (omega (arith, c.rows.ensures, c.if-rows-eq0.true))

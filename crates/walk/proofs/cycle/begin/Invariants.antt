@@ -1,8 +1,0 @@
-use Rattle.std.proofs.Common.{vec_items}
-use Rattle.std.specs.List.{slice_get}
-use Rattle.walk.specs.Cycle.{first_at}
-use Rattle.walk.proofs.Filled.{Filled}
-use Rattle.walk.proofs.cycle.begin.Given as goal
-
-abbrev pub invariant-loop-i : goal.invariant-loop-i
-invariant-loop-i g l = Filled (λ k. first_at (g.L.BlockLibrary.meaning l.library) (slice_get (vec_items l.drawing.draft.blocks) k)) l.i l.states.all
