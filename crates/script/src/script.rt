@@ -1,9 +1,11 @@
 // Scripts: the marks to put, and then the calls to make, one to a line.
+use faults::Failure;
 use ordered::Name;
 use runs::Call;
-use std::alloc::{AllocError, AllocFailed, Global};
+use std::alloc::Global;
 use std::fmt;
-use text::{literal_for, loose_literal};
+use std::str::FromStr;
+use text::{AtLine, literal_for, loose_literal};
 use values::{Value, ValueType};
 
 #[derive(Clone, Copy)]
@@ -12,15 +14,21 @@ pub struct Mark {
     pub cycle: u32,
 }
 
-// What a script asks for; `words` has each call's words, joined by single spaces.
+// A call with its words, joined by single spaces.
+#[derive(Drop)]
+pub struct Line {
+    pub words: String,
+    pub call: Call,
+}
+
+// What a script asks for.
 #[derive(Drop)]
 pub struct Script {
     pub marks: Vec<Mark>,
-    pub calls: Vec<Call>,
-    pub words: Vec<String>,
+    pub lines: Vec<Line>,
 }
 
-#[derive(Clone, Copy)]
+#[derive(Clone, Copy, PartialEq, Eq, Debug)]
 pub enum ScriptFault {
     UnknownCall,
     WordCount,
@@ -43,23 +51,13 @@ impl fmt::Display for ScriptFault {
     }
 }
 
-// Why a script is not read: the line, counted from 1, and what is wrong with it.
-#[derive(Clone, Copy)]
-pub enum ScriptError {
-    Line(usize, ScriptFault),
-    NoMemory,
-}
+// Why a script is not read.
+pub type ScriptError = Failure<AtLine<ScriptFault>>;
 
-impl From<AllocError> for ScriptError {
-    fn from(_e: AllocError) -> ScriptError {
-        ScriptError::NoMemory
-    }
-}
-
-impl<T: Drop> From<AllocFailed<T>> for ScriptError {
-    fn from(_e: AllocFailed<T>) -> ScriptError {
-        ScriptError::NoMemory
-    }
+// What a line asks for.
+enum Asked {
+    Mark(Mark),
+    Call(Call),
 }
 
 fn name_of(word: &str) -> Result<Name, ScriptFault> {
@@ -68,24 +66,24 @@ fn name_of(word: &str) -> Result<Name, ScriptFault> {
         return Err(ScriptFault::BadName);
     }
     let mut bytes = [0u8; 8];
-    for (i, b) in given.iter().enumerate() {
-        bytes[i] = *b;
-    }
+    bytes[..given.len()].copy_from_slice(given);
     Ok(Name { bytes })
 }
 
-fn cycle_of(word: &str) -> Result<u32, ScriptFault> {
-    match word.parse::<u16>() {
-        Ok(n) => Ok(u32::from(n)),
-        Err(_) => Err(ScriptFault::BadNumber),
-    }
+fn number<T: FromStr>(word: &str) -> Result<T, ScriptFault>
+where
+    T::Err: Drop,
+{
+    word.parse::<T>().map_err(|_| ScriptFault::BadNumber)
 }
 
-fn small_of(word: &str) -> Result<u32, ScriptFault> {
-    match word.parse::<u8>() {
-        Ok(n) => Ok(u32::from(n)),
-        Err(_) => Err(ScriptFault::BadNumber),
-    }
+fn cycle_of(word: &str) -> Result<u32, ScriptFault> {
+    Ok(u32::from(number::<u16>(word)?))
+}
+
+// A block or a column.
+fn part_of(word: &str) -> Result<u32, ScriptFault> {
+    Ok(u32::from(number::<u8>(word)?))
 }
 
 // A value for a column, read as the column's type first.
@@ -94,85 +92,52 @@ fn value_of(columns: &[ValueType], column: u32, word: &str) -> Result<Value, Scr
         Some(t) => literal_for(word, *t),
         None => loose_literal(word),
     };
-    match read {
-        Some(v) => Ok(v),
-        None => Err(ScriptFault::NoValue),
-    }
+    read.ok_or(ScriptFault::NoValue)
 }
 
-// A place of the hand, 0 the oldest slip.
-fn place_of(word: &str) -> Result<usize, ScriptFault> {
-    match word.parse::<usize>() {
-        Ok(i) => Ok(i),
-        Err(_) => Err(ScriptFault::BadNumber),
-    }
-}
-
-// A call of one word. The hand of a run that begins empty never has more than one slip, so the newest is
-// the first.
-fn bare_call(name: &str) -> Result<Call, ScriptFault> {
-    match name {
-        "step" => Ok(Call::Step),
-        "back" => Ok(Call::TakeBack),
-        "begin" => Ok(Call::Begin),
-        "confirm" => Ok(Call::Confirm(0)),
-        "drop" => Ok(Call::Drop(0)),
-        "jump" | "goto" | "write" | "show" | "tally" | "mark" => Err(ScriptFault::WordCount),
-        _ => Err(ScriptFault::UnknownCall),
-    }
-}
-
-// A call of two words.
-fn call_with(name: &str, word: &str) -> Result<Call, ScriptFault> {
-    match name {
-        "jump" => Ok(Call::Jump(cycle_of(word)?)),
-        "goto" => Ok(Call::Goto(name_of(word)?)),
-        "confirm" => Ok(Call::Confirm(place_of(word)?)),
-        "drop" => Ok(Call::Drop(place_of(word)?)),
-        "show" => Ok(Call::Show(small_of(word)?)),
-        "tally" => Ok(Call::Tally(small_of(word)?)),
-        "step" | "back" | "begin" | "write" | "mark" => Err(ScriptFault::WordCount),
-        _ => Err(ScriptFault::UnknownCall),
-    }
-}
-
-fn call_of(columns: &[ValueType], words: &[&str]) -> Result<Call, ScriptFault> {
-    match words {
-        [name] => bare_call(*name),
-        [name, word] => call_with(*name, *word),
-        [name, cycle, column, value] if *name == "write" => {
-            let cycle = cycle_of(*cycle)?;
-            let column = small_of(*column)?;
-            Ok(Call::Write(cycle, column, value_of(columns, column, *value)?))
+// A confirm or a drop names a place of the hand, 0 the oldest slip. The hand of a run that begins empty never has more
+// than one slip, so that the newest is the first.
+fn read_words(columns: &[ValueType], begun: bool, words: &[&str]) -> Result<Asked, ScriptFault> {
+    let call = match words {
+        ["mark", _, _] if begun => return Err(ScriptFault::LateMark),
+        ["mark", name, cycle] => {
+            let name = name_of(name)?;
+            let cycle = cycle_of(cycle)?;
+            return Ok(Asked::Mark(Mark { name, cycle }));
         }
-        [name, ..] => match bare_call(*name) {
-            Err(ScriptFault::UnknownCall) => Err(ScriptFault::UnknownCall),
-            _ => Err(ScriptFault::WordCount),
-        },
-        [] => Err(ScriptFault::UnknownCall),
-    }
-}
-
-fn mark_of(words: &[&str]) -> Option<Result<Mark, ScriptFault>> {
-    match words {
-        [first, name, cycle] if *first == "mark" => match (name_of(*name), cycle_of(*cycle)) {
-            (Ok(name), Ok(cycle)) => Some(Ok(Mark { name, cycle })),
-            (Err(e), _) => Some(Err(e)),
-            (_, Err(e)) => Some(Err(e)),
-        },
-        _ => None,
-    }
-}
-
-fn joined(heap: Global, words: &[&str]) -> Result<String, AllocError> {
-    let mut line = String::new(heap);
-    for (i, word) in words.iter().enumerate() {
-        if i > 0 {
-            line.push(' ')?;
+        ["step"] => Call::Step,
+        ["jump", cycle] => Call::Jump(cycle_of(cycle)?),
+        ["goto", name] => Call::Goto(name_of(name)?),
+        ["write", cycle, column, value] => {
+            let cycle = cycle_of(cycle)?;
+            let column = part_of(column)?;
+            Call::Write(cycle, column, value_of(columns, column, value)?)
         }
-        line.push_str(*word)?;
-    }
-    Ok(line)
+        ["back"] => Call::TakeBack,
+        ["begin"] => Call::Begin,
+        ["confirm"] => Call::Confirm(0),
+        ["confirm", place] => Call::Confirm(number(place)?),
+        ["drop"] => Call::Drop(0),
+        ["drop", place] => Call::Drop(number(place)?),
+        ["show", block] => Call::Show(part_of(block)?),
+        ["tally", column] => Call::Tally(part_of(column)?),
+        [
+            "mark"
+            | "step"
+            | "jump"
+            | "goto"
+            | "write"
+            | "back"
+            | "begin"
+            | "confirm"
+            | "drop"
+            | "show"
+            | "tally",
+            ..
+        ] => return Err(ScriptFault::WordCount),
+        _ => return Err(ScriptFault::UnknownCall),
+    };
+    Ok(Asked::Call(call))
 }
 
 // Adds what a line asks for.
@@ -180,33 +145,20 @@ fn read_line(
     heap: Global,
     columns: &[ValueType],
     script: &mut Script,
-    number: usize,
-    line: &str,
+    line: usize,
+    text: &str,
 ) -> Result<(), ScriptError> {
-    let mut words: Vec<&str> = Vec::new(heap);
-    for word in line.split(' ') {
-        if !word.is_empty() {
-            words.push(word)?;
-        }
-    }
+    let words: Vec<&str> = text.split(' ').filter(|w| !w.is_empty()).collect(heap)?;
     if words.is_empty() {
         return Ok(());
     }
-    if let Some(mark) = mark_of(&words) {
-        if !script.calls.is_empty() {
-            return Err(ScriptError::Line(number, ScriptFault::LateMark));
+    let begun = !script.lines.is_empty();
+    match read_words(columns, begun, &words).map_err(|fault| AtLine { line, fault })? {
+        Asked::Mark(mark) => Ok(script.marks.push(mark)?),
+        Asked::Call(call) => {
+            let words = words.join(heap, " ")?;
+            Ok(script.lines.push(Line { words, call })?)
         }
-        return match mark {
-            Ok(mark) => Ok(script.marks.push(mark)?),
-            Err(fault) => Err(ScriptError::Line(number, fault)),
-        };
-    }
-    match call_of(columns, &words) {
-        Ok(call) => {
-            script.words.push(joined(heap, &words)?)?;
-            Ok(script.calls.push(call)?)
-        }
-        Err(fault) => Err(ScriptError::Line(number, fault)),
     }
 }
 
@@ -214,8 +166,7 @@ fn read_line(
 pub fn read_script(heap: Global, text: &str, columns: &[ValueType]) -> Result<Script, ScriptError> {
     let mut script = Script {
         marks: Vec::new(heap),
-        calls: Vec::new(heap),
-        words: Vec::new(heap),
+        lines: Vec::new(heap),
     };
     for (i, line) in text.lines().enumerate() {
         if !line.starts_with('#') {

@@ -12,46 +12,37 @@ fn binary_word(text: &str) -> Option<bool> {
     }
 }
 
+fn binary_digit(text: &str) -> Option<bool> {
+    match text {
+        "0" => Some(false),
+        "1" => Some(true),
+        _ => None,
+    }
+}
+
 // A literal of a type; for a binary place 0 and 1 count as off and on.
 pub fn literal_of(text: &str, t: ValueType) -> Option<Value>
     ensures { IfSome result (λ v. type_of v ≡ t) }
 {
     match t {
-        ValueType::Binary => match text {
-            "0" => Some(Value::Binary(false)),
-            "1" => Some(Value::Binary(true)),
-            _ => match binary_word(text) {
-                Some(b) => Some(Value::Binary(b)),
-                None => None,
-            },
-        },
-        ValueType::Whole => match text.parse::<i16>() {
-            Ok(n) => Some(Value::Whole(n)),
-            Err(_) => None,
-        },
-        ValueType::Real => match text.parse::<f32>() {
-            Ok(x) => Some(Value::Real(x)),
-            Err(_) => None,
-        },
+        ValueType::Binary => binary_digit(text)
+            .or_else(|| binary_word(text))
+            .map(|b| Value::Binary(b)),
+        ValueType::Whole => text.parse::<i16>().ok().map(|n| Value::Whole(n)),
+        ValueType::Real => text.parse::<f32>().ok().map(|x| Value::Real(x)),
     }
 }
 
 // A literal of any type: a binary word, else a whole, else a real.
 pub fn loose_literal(text: &str) -> Option<Value> {
-    if let Some(b) = binary_word(text) {
-        return Some(Value::Binary(b));
-    }
-    match literal_of(text, ValueType::Whole) {
-        Some(v) => Some(v),
-        None => literal_of(text, ValueType::Real),
-    }
+    binary_word(text)
+        .map(|b| Value::Binary(b))
+        .or_else(|| literal_of(text, ValueType::Whole))
+        .or_else(|| literal_of(text, ValueType::Real))
 }
 
 // A literal for a place of a type. One of another type is handed on with the type it has, so that it is
 // the engine that refuses it.
 pub fn literal_for(text: &str, t: ValueType) -> Option<Value> {
-    match literal_of(text, t) {
-        Some(v) => Some(v),
-        None => loose_literal(text),
-    }
+    literal_of(text, t).or_else(|| loose_literal(text))
 }

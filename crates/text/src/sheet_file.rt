@@ -1,6 +1,8 @@
 // The text file of a sheet: a line of column types, and then a line for each row.
+use crate::at_line::AtLine;
 use crate::literal::literal_for;
-use std::alloc::{AllocError, AllocFailed, Global};
+use faults::Failure;
+use std::alloc::Global;
 use std::fmt;
 use values::{Cell, Value, ValueType};
 
@@ -12,43 +14,27 @@ pub struct SheetFile {
     pub rows: usize,
 }
 
-#[derive(Clone, Copy)]
+#[derive(Clone, Copy, PartialEq, Eq, Debug)]
 pub enum TextFault {
     UnknownType,
-    CellCount(usize, usize),
-    NoValue(usize),
+    CellCount { wanted: usize, given: usize },
+    NoValue { column: usize },
 }
 
 impl fmt::Display for TextFault {
     fn fmt<W: fmt::Write>(&self, f: &mut fmt::Formatter<W>) -> fmt::Result {
         match *self {
             TextFault::UnknownType => write!(f, "a column type is none of binary, whole and real"),
-            TextFault::CellCount(wanted, given) => {
+            TextFault::CellCount { wanted, given } => {
                 write!(f, "{given} cells where there are {wanted} columns")
             }
-            TextFault::NoValue(column) => write!(f, "the cell of column {column} is no value"),
+            TextFault::NoValue { column } => write!(f, "the cell of column {column} is no value"),
         }
     }
 }
 
-// Why a file is not read: the line, counted from 1, and what is wrong with it.
-#[derive(Clone, Copy)]
-pub enum SheetTextError {
-    Line(usize, TextFault),
-    NoMemory,
-}
-
-impl From<AllocError> for SheetTextError {
-    fn from(_e: AllocError) -> SheetTextError {
-        SheetTextError::NoMemory
-    }
-}
-
-impl<T: Drop> From<AllocFailed<T>> for SheetTextError {
-    fn from(_e: AllocFailed<T>) -> SheetTextError {
-        SheetTextError::NoMemory
-    }
-}
+// Why a file is not read.
+pub type SheetTextError = Failure<AtLine<TextFault>>;
 
 fn type_named(name: &str) -> Option<ValueType> {
     match name {
@@ -61,10 +47,7 @@ fn type_named(name: &str) -> Option<ValueType> {
 
 // A line without a carriage return at its end and without spaces around it.
 fn bare(line: &str) -> &str {
-    match line.strip_suffix('\r') {
-        Some(front) => front.trim_matches(' '),
-        None => line.trim_matches(' '),
-    }
+    line.strip_suffix('\r').unwrap_or(line).trim_matches(' ')
 }
 
 // The types of the columns; an empty line has none.
@@ -74,10 +57,11 @@ fn read_types(heap: Global, line: &str) -> Result<Vec<ValueType>, SheetTextError
         return Ok(types);
     }
     for name in line.split(',') {
-        match type_named(name.trim_matches(' ')) {
-            Some(t) => types.push(t)?,
-            None => return Err(SheetTextError::Line(1, TextFault::UnknownType)),
-        }
+        let named = type_named(name.trim_matches(' '));
+        types.push(named.ok_or(AtLine {
+            line: 1,
+            fault: TextFault::UnknownType,
+        })?)?;
     }
     Ok(types)
 }
@@ -94,35 +78,34 @@ fn count_cells(line: &str, types: &[ValueType]) -> usize {
 fn read_row(
     cells: &mut Vec<Cell>,
     types: &[ValueType],
-    number: usize,
-    line: &str,
+    line: usize,
+    text: &str,
 ) -> Result<(), SheetTextError> {
-    let given = count_cells(line, types);
+    let given = count_cells(text, types);
     if given != types.len() {
-        return Err(SheetTextError::Line(number, TextFault::CellCount(types.len(), given)));
+        let fault = TextFault::CellCount {
+            wanted: types.len(),
+            given,
+        };
+        return Err(AtLine { line, fault }.into());
     }
-    for (column, (t, cell)) in types.iter().zip(line.split(',')).enumerate() {
-        match literal_for(cell.trim_matches(' '), *t) {
-            Some(v) => cells.push(v.cell())?,
-            None => return Err(SheetTextError::Line(number, TextFault::NoValue(column))),
-        }
+    for (column, (t, cell)) in types.iter().zip(text.split(',')).enumerate() {
+        let fault = TextFault::NoValue { column };
+        let value = literal_for(cell.trim_matches(' '), *t).ok_or(AtLine { line, fault })?;
+        cells.push(Cell::from(value))?;
     }
     Ok(())
 }
 
 // Reads a whole file. A file with no line has no columns and no rows.
 pub fn read_sheet(heap: Global, text: &str) -> Result<SheetFile, SheetTextError> {
-    let mut types = Vec::new(heap);
     let mut cells = Vec::new(heap);
     let mut rows = 0usize;
-    for (i, line) in text.lines().enumerate() {
-        let line = bare(line);
-        if i == 0 {
-            types = read_types(heap, line)?;
-        } else {
-            read_row(&mut cells, &types, i.saturating_add(1), line)?;
-            rows = i;
-        }
+    let mut lines = text.lines();
+    let types = read_types(heap, bare(lines.next().unwrap_or("")))?;
+    for (i, line) in lines.enumerate() {
+        rows = i.saturating_add(1);
+        read_row(&mut cells, &types, rows.saturating_add(1), bare(line))?;
     }
     Ok(SheetFile { types, cells, rows })
 }
