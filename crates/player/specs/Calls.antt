@@ -104,11 +104,6 @@ Does library store q p c a q' p' =
 
 -- ---- answers
 
--- the cycle that a mark gives, and the fault of a mark that is not there
-abbrev pub marked_cycle : Option ℕ → Result ℕ Fault
-marked_cycle (Some t) = Ok t
-marked_cycle None = Err NoSuchMark
-
 abbrev pub worked_or : Result ℕ Fault → Answer
 worked_or (Ok n) = answer.Worked n
 worked_or (Err f) = answer.Refused f
@@ -116,10 +111,6 @@ worked_or (Err f) = answer.Refused f
 abbrev pub value_or : Result Value Fault → Answer
 value_or (Ok v) = answer.Value v
 value_or (Err f) = answer.Refused f
-
-abbrev pub count_or : Result ℕ Fault → Answer
-count_or (Ok n) = answer.Count n
-count_or (Err f) = answer.Refused f
 
 abbrev pub slip_or : Result Slip Fault → Answer
 slip_or (Ok s) = answer.Slip s.standing

@@ -4,21 +4,19 @@ use Rattle.values.specs.declared.scalar.State.{State}
 use Rattle.values.specs.declared.scalar.Value.{Value}
 use Rattle.values.specs.declared.working.Row.{Row}
 use Rattle.values.specs.Values.{absent}
-use Rattle.values.specs.Packed.{packed_of, state_of}
+use Rattle.values.specs.Packed.{state_of}
 use Rattle.blocks.specs.Library.{Library}
 use Rattle.drawing.specs.declared.drawing.Drawing.{Drawing}
 use Rattle.walk.specs.Cycle.{Passes, worked}
 use Rattle.walk.specs.Opening.{blocks_of}
 use Rattle.keyframes.specs.Frames.{Frames}
 use Rattle.keyframes.specs.Chain.{due, Keeps}
+pub use Rattle.keyframes.specs.Chain.{packed}
 use Rattle.blocks.specs.declared.library.BlockLibrary as BlockLibrary
 use Rattle.keyframes.specs.declared.store.KeyframeStore as KeyframeStore
 use Rattle.player.specs.declared.player.Player.{Player}
 
--- states as a store keeps them, and back
-abbrev pub packed : List State → Row
-packed states = record { states = map packed_of states }
-
+-- states as a store keeps them are `packed`, and back
 abbrev pub unpacked : Row → List State
 unpacked row = map state_of row.states
 

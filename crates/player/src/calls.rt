@@ -3,7 +3,7 @@ ghost use Rattle.std.specs.Prelude.{◌≡◌, slice_index_or};
 ghost use Rattle.values.specs.Values.{absent};
 ghost use Rattle.sheet.specs.Page.{page, Page};
 ghost use Rattle.marks.specs.Marks.{mark};
-ghost use Rattle.player.specs.Calls.{Does, worked_or, value_or, marked_cycle};
+ghost use Rattle.player.specs.Calls.{Does, worked_or, value_or};
 ghost use Rattle.player.specs.Feed.{Jump, Step, Goto, Show};
 ghost use Rattle.player.specs.Law.{Obeys};
 ghost use Rattle.player.specs.Moves.{Stays};
@@ -17,16 +17,6 @@ use ordered::Name;
 use sheet::Sheet;
 use values::Value;
 
-// The cycle of a mark.
-fn marked(marks: &MarkTable, name: Name) -> Result<u32, Fault>
-    ensures { result ≡ marked_cycle (mark marks.now name) }
-{
-    match marks.get(name) {
-        Some(cycle) => Ok(cycle),
-        None => Err(Fault::NoSuchMark),
-    }
-}
-
 impl<L: BlockLibrary, S: KeyframeStore> Player<L, S> {
     // Moves the playhead to a cycle; answers the cycles worked.
     pub fn jump(&mut self, sheet: &Sheet, cycle: u32) -> Result<u32, Fault>
@@ -34,9 +24,7 @@ impl<L: BlockLibrary, S: KeyframeStore> Player<L, S> {
         ensures law { Obeys L.meaning S.means self.old (page sheet.now) (Jump cycle) (worked_or result) self.new (page sheet.now) }
         ensures stays { Stays self.old self.new }
     {
-        if !self.serves(sheet) {
-            return Err(Fault::NotOpened);
-        }
+        self.serves(sheet)?;
         if cycle >= sheet.rows() {
             return Err(Fault::CycleBeyond(Place { cycle, column: 0 }));
         }
@@ -63,10 +51,8 @@ impl<L: BlockLibrary, S: KeyframeStore> Player<L, S> {
         ensures law { Obeys L.meaning S.means self.old (page sheet.now) (Goto (mark marks.now name)) (worked_or result) self.new (page sheet.now) }
         ensures stays { Stays self.old self.new }
     {
-        match marked(marks, name) {
-            Ok(cycle) => self.jump(sheet, cycle),
-            Err(fault) => Err(fault),
-        }
+        let cycle = marks.get(name).ok_or(Fault::NoSuchMark)?;
+        self.jump(sheet, cycle)
     }
 
     fn value_at(&self, block: u32) -> Value

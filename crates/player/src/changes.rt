@@ -14,7 +14,6 @@ use faults::Fault;
 use keyframes::KeyframeStore;
 use sheet::Sheet;
 use values::Value;
-use walk::work;
 
 impl<L: BlockLibrary, S: KeyframeStore> Player<L, S> {
     // Brings the player up to date after a change whose lowest cycle is k; answers the cycles worked.
@@ -28,7 +27,7 @@ impl<L: BlockLibrary, S: KeyframeStore> Player<L, S> {
         }
         if k == self.at {
             let row = sheet.row(k);
-            self.shown = work(&self.library, &self.drawing, &self.states, row.as_slice());
+            self.shown = self.machine().work(&self.states, row.as_slice());
         }
         0
     }
@@ -57,13 +56,9 @@ impl<L: BlockLibrary, S: KeyframeStore> Player<L, S> {
         ensures untouched { Untouched result sheet.old sheet.new }
         ensures stays { Stays self.old self.new }
     {
-        if !self.serves(sheet) {
-            return Err(Fault::NotOpened);
-        }
-        match sheet.append(cycle, column, value) {
-            Ok(()) => Ok(self.renew(sheet, cycle)),
-            Err(fault) => Err(fault),
-        }
+        self.serves(sheet)?;
+        sheet.append(cycle, column, value)?;
+        Ok(self.renew(sheet, cycle))
     }
 
     // Strikes out the latest standing write, inside a trial only one made since its begin; answers the cycles worked.
@@ -73,12 +68,8 @@ impl<L: BlockLibrary, S: KeyframeStore> Player<L, S> {
         ensures untouched { Untouched result sheet.old sheet.new }
         ensures stays { Stays self.old self.new }
     {
-        if !self.serves(sheet) {
-            return Err(Fault::NotOpened);
-        }
-        match sheet.strike_latest() {
-            Ok(k) => Ok(self.renew(sheet, k)),
-            Err(fault) => Err(fault),
-        }
+        self.serves(sheet)?;
+        let k = sheet.strike_latest()?;
+        Ok(self.renew(sheet, k))
     }
 }

@@ -1,4 +1,5 @@
-// Moves of the playhead: where they start, the cycles worked, and the rows put on the way.
+// Moves of the playhead: where they start, the cycles worked, and the rows put on the way. `stays` relates a player before
+// a call to the player after it, so it stands on each call, and no type can say it; a cycle below 4,096 is one of a sheet's.
 ghost use Rattle.std.specs.Prelude.{◌≡◌, ◌+◌, ◌<◌, ◌≤◌, true, nat_le};
 ghost use Rattle.sheet.specs.Page.{page};
 ghost use Rattle.sheet.specs.Rows.{rows_of};
@@ -7,10 +8,9 @@ ghost use Rattle.player.specs.Moves.{Starts, Moves, Stays};
 
 use crate::player::Player;
 use blocks::BlockLibrary;
-use keyframes::KeyframeStore;
+use keyframes::{KeyframeStore, reach_with};
 use sheet::Sheet;
-use values::Row;
-use walk::{begin, pass, work};
+use values::States;
 
 fn cycles_between(start: u32, end: u32) -> u32
     requires { start ≤ end }
@@ -26,10 +26,7 @@ impl<L: BlockLibrary, S: KeyframeStore> Player<L, S> {
         ensures stays { Stays self.old self.new }
         ensures states { self.new.states ≡ self.old.states }
     {
-        if cycle % 32 == 0 && self.store.takes(cycle) {
-            let row = self.states.row();
-            let _ = self.store.put(cycle, &row);
-        }
+        reach_with(&mut self.store, cycle, &self.states);
     }
 
     // Works one cycle, from its states to those of the next.
@@ -41,8 +38,8 @@ impl<L: BlockLibrary, S: KeyframeStore> Player<L, S> {
     {
         let row = sheet.row(cycle);
         let cells = row.as_slice();
-        let values = work(&self.library, &self.drawing, &self.states, cells);
-        self.states = pass(&self.library, &self.drawing, &self.states, cells, &values);
+        let values = self.machine().work(&self.states, cells);
+        self.states = self.machine().pass(&self.states, cells, &values);
         self.keep(cycle + 1);
     }
 
@@ -66,16 +63,16 @@ impl<L: BlockLibrary, S: KeyframeStore> Player<L, S> {
     {
         if let Some(c) = self.store.find(end) {
             if !current || self.at < c {
-                let mut row = self.states.row();
-                let _ = self.store.fetch(c, &mut row);
-                self.states = row.restore();
-                return c;
+                if let Some(row) = self.store.fetch(c) {
+                    self.states = States::from(&row);
+                    return c;
+                }
             }
         }
         if current {
             return self.at;
         }
-        self.states = begin(&self.library, &self.drawing);
+        self.states = self.machine().begin();
         0
     }
 
@@ -91,7 +88,7 @@ impl<L: BlockLibrary, S: KeyframeStore> Player<L, S> {
         self.play(sheet, start, end);
         self.at = end;
         let row = sheet.row(end);
-        self.shown = work(&self.library, &self.drawing, &self.states, row.as_slice());
+        self.shown = self.machine().work(&self.states, row.as_slice());
         cycles_between(start, end)
     }
 

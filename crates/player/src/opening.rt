@@ -11,14 +11,18 @@ use drawing::Drawing;
 use faults::Fault;
 use keyframes::KeyframeStore;
 use sheet::Sheet;
-use walk::{begin, opens, work};
+use walk::Machine;
 
 impl<L: BlockLibrary, S: KeyframeStore> Player<L, S> {
     // Tests the rows, the columns and the library, in this order.
     fn test_opening(&self, drawing: &Drawing, sheet: &Sheet) -> Result<(), Fault>
         ensures { MatchResult result (λ _. Openable (L.meaning self.now.library) drawing.now (page sheet.now)) (Unopenable (L.meaning self.now.library) drawing.now (page sheet.now)) }
     {
-        opens(&self.library, drawing, sheet)
+        Machine {
+            library: &self.library,
+            drawing,
+        }
+        .opens(sheet)
     }
 
     // Begins anew: the store is emptied, and the playhead is at cycle 0 with first states.
@@ -27,10 +31,10 @@ impl<L: BlockLibrary, S: KeyframeStore> Player<L, S> {
         ensures { Opens L.meaning S.means self.old drawing (page sheet.now) self.new }
     {
         self.store.empty();
-        self.states = begin(&self.library, &drawing);
-        let row = sheet.row(0);
-        self.shown = work(&self.library, &drawing, &self.states, row.as_slice());
         self.drawing = drawing;
+        self.states = self.machine().begin();
+        let row = sheet.row(0);
+        self.shown = self.machine().work(&self.states, row.as_slice());
         self.rows = sheet.rows();
         self.at = 0;
     }
@@ -39,12 +43,11 @@ impl<L: BlockLibrary, S: KeyframeStore> Player<L, S> {
     pub fn open(&mut self, drawing: Drawing, sheet: &Sheet) -> Result<(), Unopened>
         ensures { MatchResult result (λ _. Opens L.meaning S.means self.old drawing (page sheet.now) self.new) (λ e. Unopenable (L.meaning self.old.library) drawing (page sheet.now) e.fault × (e.drawing ≡ drawing) × (self.new ≡ self.old)) }
     {
-        match self.test_opening(&drawing, sheet) {
-            Ok(()) => {
-                self.start(drawing, sheet);
-                Ok(())
-            }
-            Err(fault) => Err(Unopened { fault, drawing }),
+        // no `map_err`: its closure would own the drawing in the other case too
+        if let Err(fault) = self.test_opening(&drawing, sheet) {
+            return Err(Unopened { fault, drawing });
         }
+        self.start(drawing, sheet);
+        Ok(())
     }
 }

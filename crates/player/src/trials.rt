@@ -19,9 +19,7 @@ impl<L: BlockLibrary, S: KeyframeStore> Player<L, S> {
         ensures law { Obeys L.meaning S.means self.now (page sheet.old) Begin (slip_or result) self.now (page sheet.new) }
         ensures untouched { Untouched result sheet.old sheet.new }
     {
-        if !self.serves(sheet) {
-            return Err(Fault::NotOpened);
-        }
+        self.serves(sheet)?;
         sheet.open_trial()
     }
 
@@ -32,16 +30,12 @@ impl<L: BlockLibrary, S: KeyframeStore> Player<L, S> {
         ensures untouched { Untouched result sheet.old sheet.new }
         ensures back { HandsBack slip result }
     {
-        if !self.serves(sheet) {
-            return Err(Returned {
-                fault: Fault::NotOpened,
-                slip,
-            });
+        // no `map_err`: its closure would own the slip in the other case too
+        if let Err(fault) = self.serves(sheet) {
+            return Err(Returned { fault, slip });
         }
-        match sheet.close_trial(slip) {
-            Ok(()) => Ok(0),
-            Err(back) => Err(back),
-        }
+        sheet.close_trial(slip)?;
+        Ok(0)
     }
 
     // Ends a trial and strikes out every write standing since its begin; answers the cycles worked.
@@ -52,15 +46,11 @@ impl<L: BlockLibrary, S: KeyframeStore> Player<L, S> {
         ensures back { HandsBack slip result }
         ensures stays { Stays self.old self.new }
     {
-        if !self.serves(sheet) {
-            return Err(Returned {
-                fault: Fault::NotOpened,
-                slip,
-            });
+        // no `map_err`: its closure would own the slip in the other case too
+        if let Err(fault) = self.serves(sheet) {
+            return Err(Returned { fault, slip });
         }
-        match sheet.strike_since(slip) {
-            Ok(low) => Ok(self.renew_from(sheet, low)),
-            Err(back) => Err(back),
-        }
+        let low = sheet.strike_since(slip)?;
+        Ok(self.renew_from(sheet, low))
     }
 }

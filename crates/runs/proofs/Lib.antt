@@ -1,5 +1,3 @@
-pub mod PutBack
-pub mod Holding
 pub mod Chaining
 pub mod Following
 pub mod Standing
@@ -7,4 +5,3 @@ pub mod Striking
 pub mod Replaying
 pub mod Owning
 pub mod Same
-pub mod Opened

@@ -1,5 +1,6 @@
 -- The calls of a run, each with its outcome. Assumes nothing.
-use Rattle.std.specs.Prelude.{◌≡◌, ◌+◌, ◌≤◌, List, [], ◌∷◌, ◌++◌, length, Some, None, vec_len, vec_capacity, Option, Vec}
+use Rattle.std.specs.Prelude.{◌≡◌, ℕ, ◌+◌, ◌≤◌, List, [], ◌∷◌, ◌++◌, length, Some, None, Ok, Err, vec_len, vec_capacity, Option, Result, Vec}
+use Rattle.std.specs.List.{insert}
 use Rattle.std.specs.declared.alloc.Global.{Global}
 use Rattle.faults.specs.declared.fault.Fault.{Fault}
 use Rattle.blocks.specs.declared.library.BlockLibrary as BlockLibrary
@@ -7,6 +8,7 @@ use Rattle.blocks.specs.Library.{Library}
 use Rattle.keyframes.specs.declared.store.KeyframeStore as KeyframeStore
 use Rattle.keyframes.specs.Frames.{Frames}
 use Rattle.sheet.specs.declared.slip.Slip.{Slip}
+use Rattle.sheet.specs.declared.slip.Returned.{Returned}
 use Rattle.sheet.specs.Page.{Page}
 use Rattle.marks.specs.declared.table.MarkTable.{MarkTable}
 use Rattle.walk.specs.Opening.{blocks_of, columns_of}
@@ -33,6 +35,16 @@ desk q p hand = record { player = q; page = p; hand = hand }
 pub record Roomy (hand hand' : Vec Slip Global) : Type 0 where
   pub capacity : vec_capacity hand' ≡ vec_capacity hand
   pub len : vec_len hand' ≤ vec_len hand + 1
+
+-- a fault is answered as a refusal
+abbrev pub answer_or : Result Answer Fault → Answer
+answer_or (Ok a) = a
+answer_or (Err f) = answer.Refused f
+
+-- what the end of a trial tells, with its slip taken out of the hand at place i: a refused end puts the slip back there
+abbrev pub Ended : Result ℕ Returned → ℕ → List Slip → Result ℕ Fault → List Slip → Type 0
+Ended (Ok n) i left r now = (r ≡ Ok n) × (now ≡ left)
+Ended (Err b) i left r now = (r ≡ Err b.fault) × (now ≡ insert left i b.slip)
 
 module _ {L S : Type 0} {l : BlockLibrary.Ghosts L} {s : KeyframeStore.Ghosts S} (library : L → Library) (store : S → Frames) where
   -- the fault that a player and a page find in a call

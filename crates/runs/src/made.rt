@@ -1,12 +1,8 @@
-// One call of a run: made, and told.
-ghost use Rattle.std.specs.Prelude.{◌≡◌, ◌+◌, ◌<◌, ◌≤◌, Some, vec_len, vec_capacity};
+// One call of a run: made, and told. Room in the hand stands on each: the hand is the caller's vector.
+ghost use Rattle.std.specs.Prelude.{◌≡◌, ◌+◌, ◌<◌, ◌≤◌, vec_len, vec_capacity};
 ghost use Rattle.std.specs.List.{insert};
 ghost use Rattle.sheet.specs.Page.{page};
-ghost use Rattle.player.specs.Calls.{worked_or, value_or, count_or};
-ghost use Rattle.player.specs.Feed as feed;
-ghost use Rattle.runs.specs.Session.{with_slip};
-ghost use Rattle.runs.specs.Chain.{desk, Made, MadeOf, Roomy};
-ghost use Rattle.runs.specs.declared.call.Call.TheVariants as call;
+ghost use Rattle.runs.specs.Chain.{desk, Made, Roomy, answer_or, Ended};
 
 use crate::call::Call;
 use blocks::BlockLibrary;
@@ -15,34 +11,6 @@ use keyframes::KeyframeStore;
 use marks::MarkTable;
 use player::{Answer, Player};
 use sheet::{Returned, Sheet, Slip};
-use values::Value;
-
-fn worked_answer(r: Result<u32, Fault>) -> Answer
-    ensures { result ≡ worked_or r }
-{
-    match r {
-        Ok(n) => Answer::Worked(n),
-        Err(fault) => Answer::Refused(fault),
-    }
-}
-
-fn value_answer(r: Result<Value, Fault>) -> Answer
-    ensures { result ≡ value_or r }
-{
-    match r {
-        Ok(value) => Answer::Value(value),
-        Err(fault) => Answer::Refused(fault),
-    }
-}
-
-fn count_answer(r: Result<u32, Fault>) -> Answer
-    ensures { result ≡ count_or r }
-{
-    match r {
-        Ok(n) => Answer::Count(n),
-        Err(fault) => Answer::Refused(fault),
-    }
-}
 
 // Puts a slip back to its place, for which there is room.
 fn put_back(hand: &mut Vec<Slip>, i: usize, slip: Slip)
@@ -58,73 +26,65 @@ fn put_back(hand: &mut Vec<Slip>, i: usize, slip: Slip)
     }
 }
 
-// Begins a trial; its slip goes to the end of the hand.
-fn begin<L: BlockLibrary, S: KeyframeStore>(
-    player: &Player<L, S>,
-    sheet: &mut Sheet,
-    hand: &mut Vec<Slip>,
-) -> Answer
-    requires { vec_len hand.old < vec_capacity hand.old }
-    ensures made { MadeOf L.meaning S.means (Some feed.Begin) call.Begin (desk player.now (page sheet.old) hand.old.items) result (desk player.now (page sheet.new) hand.new.items) }
+// What the end of a trial tells. The slip of a refused one goes back to its place, for which there is room.
+fn ended(hand: &mut Vec<Slip>, i: usize, end: Result<u32, Returned>) -> Result<u32, Fault>
+    requires place { i ≤ vec_len hand.old }
+    requires room { vec_len hand.old < vec_capacity hand.old }
+    ensures told { Ended end i hand.old.items result hand.new.items }
     ensures room { Roomy hand.old hand.new }
 {
-    match player.begin_trial(sheet) {
-        Ok(slip) => {
+    // no `map_err`: the hand takes the slip back, and a closure would hold the hand
+    match end {
+        Ok(n) => Ok(n),
+        Err(Returned { fault, slip }) => {
+            put_back(hand, i, slip);
+            Err(fault)
+        }
+    }
+}
+
+// Makes one call. A begin puts its slip at the end of the hand, and a confirm or a drop takes its own out of it.
+// Player, sheet and hand stay three parameters: a struct of the borrows is no plainer, with two lifetimes and made anew at each call.
+fn make<L: BlockLibrary, S: KeyframeStore>(
+    player: &mut Player<L, S>,
+    sheet: &mut Sheet,
+    hand: &mut Vec<Slip>,
+    marks: &MarkTable,
+    call: Call,
+) -> Result<Answer, Fault>
+    requires { vec_len hand.old < vec_capacity hand.old }
+    ensures made { Made L.meaning S.means marks.now call (desk player.old (page sheet.old) hand.old.items) (answer_or result) (desk player.new (page sheet.new) hand.new.items) }
+    ensures room { Roomy hand.old hand.new }
+{
+    Ok(match call {
+        Call::Step => Answer::Worked(player.step(sheet)?),
+        Call::Jump(cycle) => Answer::Worked(player.jump(sheet, cycle)?),
+        Call::Goto(name) => Answer::Worked(player.jump_to_mark(sheet, marks, name)?),
+        Call::Write(cycle, column, value) => {
+            Answer::Worked(player.write(sheet, cycle, column, value)?)
+        }
+        Call::TakeBack => Answer::Worked(player.take_back(sheet)?),
+        Call::Begin => {
+            let slip = player.begin_trial(sheet)?;
             let n = slip.number();
             hand.push_reserved(slip);
             Answer::Slip(n)
         }
-        Err(fault) => Answer::Refused(fault),
-    }
-}
-
-// Spends the slip at place i by a confirm. A refused one goes back to its place.
-fn confirm<L: BlockLibrary, S: KeyframeStore>(
-    player: &Player<L, S>,
-    sheet: &mut Sheet,
-    hand: &mut Vec<Slip>,
-    i: usize,
-) -> Answer
-    ensures made { MadeOf L.meaning S.means (with_slip feed.Confirm hand.old.items i) (call.Confirm i) (desk player.now (page sheet.old) hand.old.items) result (desk player.now (page sheet.new) hand.new.items) }
-    ensures room { Roomy hand.old hand.new }
-{
-    if i >= hand.len() {
-        return Answer::NoSlip;
-    }
-    let slip = hand.remove(i);
-    match player.confirm_trial(sheet, slip) {
-        Ok(n) => Answer::Worked(n),
-        Err(Returned { fault, slip }) => {
-            put_back(hand, i, slip);
-            Answer::Refused(fault)
+        Call::Confirm(i) | Call::Drop(i) if i >= hand.len() => Answer::NoSlip,
+        Call::Confirm(i) => {
+            let slip = hand.remove(i);
+            Answer::Worked(ended(hand, i, player.confirm_trial(sheet, slip))?)
         }
-    }
-}
-
-// Spends the slip at place i by a drop. A refused one goes back to its place.
-fn discard<L: BlockLibrary, S: KeyframeStore>(
-    player: &mut Player<L, S>,
-    sheet: &mut Sheet,
-    hand: &mut Vec<Slip>,
-    i: usize,
-) -> Answer
-    ensures made { MadeOf L.meaning S.means (with_slip feed.Drop hand.old.items i) (call.Drop i) (desk player.old (page sheet.old) hand.old.items) result (desk player.new (page sheet.new) hand.new.items) }
-    ensures room { Roomy hand.old hand.new }
-{
-    if i >= hand.len() {
-        return Answer::NoSlip;
-    }
-    let slip = hand.remove(i);
-    match player.drop_trial(sheet, slip) {
-        Ok(n) => Answer::Worked(n),
-        Err(Returned { fault, slip }) => {
-            put_back(hand, i, slip);
-            Answer::Refused(fault)
+        Call::Drop(i) => {
+            let slip = hand.remove(i);
+            Answer::Worked(ended(hand, i, player.drop_trial(sheet, slip))?)
         }
-    }
+        Call::Show(block) => Answer::Value(player.show(block)?),
+        Call::Tally(column) => Answer::Count(sheet.tally(column)?),
+    })
 }
 
-// Makes one call.
+// Makes one call, and tells a refusal as an answer.
 pub(crate) fn perform<L: BlockLibrary, S: KeyframeStore>(
     player: &mut Player<L, S>,
     sheet: &mut Sheet,
@@ -136,18 +96,5 @@ pub(crate) fn perform<L: BlockLibrary, S: KeyframeStore>(
     ensures made { Made L.meaning S.means marks.now call (desk player.old (page sheet.old) hand.old.items) result (desk player.new (page sheet.new) hand.new.items) }
     ensures room { Roomy hand.old hand.new }
 {
-    match call {
-        Call::Step => worked_answer(player.step(sheet)),
-        Call::Jump(cycle) => worked_answer(player.jump(sheet, cycle)),
-        Call::Goto(name) => worked_answer(player.jump_to_mark(sheet, marks, name)),
-        Call::Write(cycle, column, value) => worked_answer(player.write(
-            sheet, cycle, column, value,
-        )),
-        Call::TakeBack => worked_answer(player.take_back(sheet)),
-        Call::Begin => begin(player, sheet, hand),
-        Call::Confirm(i) => confirm(player, sheet, hand, i),
-        Call::Drop(i) => discard(player, sheet, hand, i),
-        Call::Show(block) => value_answer(player.show(block)),
-        Call::Tally(column) => count_answer(sheet.tally(column)),
-    }
+    make(player, sheet, hand, marks, call).unwrap_or_else(Answer::Refused)
 }

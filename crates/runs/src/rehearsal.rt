@@ -44,6 +44,7 @@ pub fn rehearse<L: BlockLibrary, S: KeyframeStore>(
     ensures { MatchResult result (λ _. Rehearses L.meaning S.means marks.now drawing player.old (page sheet.old) calls.now answers.old.items answers.new.items player.new (page sheet.new)) (λ halt. Halts (L.meaning player.old.library) drawing (page sheet.old) (Short answers.old hand.slips (length calls.now)) halt × (player.new ≡ player.old) × (sheet.new ≡ sheet.old) × (answers.new.items ≡ answers.old.items)) }
 {
     let EmptyHand { mut slips } = hand;
+    // the slips are linear: each answer ends them in its own way
     match replay(player, drawing, sheet, &mut slips, marks, calls, answers) {
         Ok(()) => {
             settle(sheet, slips);

@@ -22,8 +22,7 @@ fn reserve(hand: &mut Vec<Slip>, answers: &mut Vec<Answer>, n: usize) -> Result<
     ensures answers { answers.new.items ≡ answers.old.items }
 {
     answers.reserve(n)?;
-    hand.reserve(n)?;
-    Ok(())
+    hand.reserve(n)
 }
 
 // Makes the calls in turn, in memory that suffices.
@@ -74,14 +73,11 @@ pub fn replay<L: BlockLibrary, S: KeyframeStore>(
 ) -> Result<(), Halt>
     ensures { MatchResult result (λ _. Replays L.meaning S.means marks.now drawing (desk player.old (page sheet.old) hand.old.items) calls.now answers.old.items answers.new.items (desk player.new (page sheet.new) hand.new.items)) (λ halt. Halts (L.meaning player.old.library) drawing (page sheet.old) (Short answers.old hand.old (length calls.now)) halt × (player.new ≡ player.old) × (sheet.new ≡ sheet.old) × (hand.new.items ≡ hand.old.items) × (answers.new.items ≡ answers.old.items)) }
 {
-    match reserve(hand, answers, calls.len()) {
-        Ok(()) => (),
-        Err(_) => return Err(Halt::NoMemory(drawing)),
+    // no `map_err`: its closure would own the drawing in the other case too
+    if let Err(_) = reserve(hand, answers, calls.len()) {
+        return Err(Halt::NoMemory(drawing));
     }
-    match player.open(drawing, sheet) {
-        Ok(()) => (),
-        Err(unopened) => return Err(Halt::Refused(unopened)),
-    }
+    player.open(drawing, sheet).map_err(Halt::Refused)?;
     follow(player, sheet, hand, marks, calls, answers);
     Ok(())
 }

@@ -9,7 +9,7 @@ use keyframes::KeyframeStore;
 
 // The demonstration's file, and its run by a player of any types that mean the plant library and stores with room for a row, and of
 // the store that keeps one row; ADD, SEQ, SCALE and ONDT; a NOT fed by itself, and one fed by itself through a DELB.
-pub fn worked_examples_stand<L: BlockLibrary, S: KeyframeStore>() -> u8
+pub fn worked_examples_stand<L: BlockLibrary, S: KeyframeStore>()
     ensures file { CounterFile }
     ensures run { Meant L.meaning S.means → Demonstrates L.BlockLibrary S.KeyframeStore L.meaning S.means }
     ensures one_run { OneDemonstrates }
@@ -19,6 +19,4 @@ pub fn worked_examples_stand<L: BlockLibrary, S: KeyframeStore>() -> u8
     ensures on_delays { OnDelays }
     ensures inverter_on_itself { OnItself }
     ensures inverter_through_delay { ThroughDelay }
-{
-    0
-}
+{}

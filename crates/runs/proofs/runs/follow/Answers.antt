@@ -1,11 +1,8 @@
-use Rattle.std.proofs.Common.{vec_items, subst, arith, take_all}
+use Rattle.std.proofs.Common.{vec_items, arith}
 use Rattle.sheet.specs.Page.{page}
-use Rattle.runs.specs.Chain.{desk, Tells}
+use Rattle.runs.specs.Chain.{desk}
 use Rattle.runs.proofs.Chaining.{tells_none, tells_more}
 use Rattle.runs.proofs.runs.follow.Goals as goal
-
-pub perform-requires : goal.perform-requires
-perform-requires g c = omega (arith, c.loop-call.invariant.2, c.loop-call-test.true)
 
 pub loop-call-init : goal.loop-call-init
 loop-call-init g c = (tells_none g.L.BlockLibrary.meaning g.S.KeyframeStore.means c.args.marks.now (desk c.args.player.now (page c.args.sheet.now) (vec_items c.args.hand.now)) (vec_items c.args.answers.now), omega (arith, c.requires.memory), omega (arith, c.requires.room))
@@ -19,8 +16,3 @@ loop-call-preserved g c =
       omega (arith, pushed.len, pushed.capacity, inv.1),
       omega (arith, step.room.capacity, step.room.len, inv.2),
     )
-
-pub returns : goal.returns
-returns g c =
-    let inv = c.loop-call.invariant in
-    subst (λ cs. Tells g.L.BlockLibrary.meaning g.S.KeyframeStore.means c.args.marks.now (desk c.args.player.now (page c.args.sheet.now) (vec_items c.args.hand.now)) cs (vec_items c.args.answers.now) (vec_items c.loop-call.answers) (desk c.loop-call.player (page c.loop-call.sheet) (vec_items c.loop-call.hand))) (take_all c.loop-call.call-index c.args.calls.now c.loop-call-test.false) inv.0
