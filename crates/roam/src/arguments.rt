@@ -1,5 +1,5 @@
 // The program's arguments.
-use crate::stop::Stop;
+use cli::{Program, Stop};
 use std::env;
 
 #[derive(Clone, Copy)]
@@ -20,13 +20,10 @@ fn store_named(word: &str) -> Option<StoreChoice> {
     match word {
         "none" => Some(StoreChoice::Nothing),
         "one" => Some(StoreChoice::One),
-        _ => match word.strip_prefix("table:") {
-            Some(rows) => match rows.parse::<usize>() {
-                Ok(rows) if rows <= 4096 => Some(StoreChoice::Table(rows)),
-                _ => None,
-            },
-            None => None,
-        },
+        _ => {
+            let rows = word.strip_prefix("table:")?.parse::<usize>().ok()?;
+            (rows <= 4096).then_some(StoreChoice::Table(rows))
+        }
     }
 }
 
@@ -35,19 +32,16 @@ pub fn read_arguments(rt: &HostRuntime) -> Result<Arguments, Stop> {
     let mut args = env::args(rt)?;
     let _program = args.next();
     let (Some(drawing), Some(sheet)) = (args.next(), args.next()) else {
-        return Err(Stop::Usage);
+        return Err(Stop::Usage(Program::Roam));
     };
     let store = match (args.next(), args.next()) {
         (None, None) => Some(StoreChoice::Table(128)),
         (Some(word), None) => store_named(word.as_str()),
         _ => None,
     };
-    match store {
-        Some(store) => Ok(Arguments {
-            drawing,
-            sheet,
-            store,
-        }),
-        None => Err(Stop::Usage),
-    }
+    Ok(Arguments {
+        drawing,
+        sheet,
+        store: store.ok_or(Stop::Usage(Program::Roam))?,
+    })
 }
