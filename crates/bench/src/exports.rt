@@ -1,7 +1,7 @@
-// What a program outside calls. A `Global` takes no place among the arguments that it passes.
+// What a program outside calls, by C's rules: a name and numbers for each piece of work, and 0 in place of an error. A
+// `Global` takes no place among the arguments that it passes.
 use crate::files::{load_often, read_often, write_often};
-use crate::stop::Stop;
-use crate::tasks::{Task, on_player};
+use crate::tasks::{Inputs, on_player};
 use std::alloc::Global;
 
 // What is answered in place of a checksum.
@@ -9,13 +9,6 @@ pub const REFUSED: u64 = 0;
 
 // The most rows that a table of keyframes is ever asked to hold.
 const KEYFRAMES: usize = 128;
-
-fn answered(sum: Result<u64, Stop>) -> u64 {
-    match sum {
-        Ok(total) => total,
-        Err(_) => REFUSED,
-    }
-}
 
 #[unsafe(no_mangle)]
 pub extern "C" fn lundzavar_steps(
@@ -25,7 +18,12 @@ pub extern "C" fn lundzavar_steps(
     rows: u32,
     count: u32,
 ) -> u64 {
-    answered(on_player(heap, file, readings, rows, 0, Task::Steps(count)))
+    let inputs = Inputs {
+        file,
+        readings,
+        rows,
+    };
+    on_player(heap, inputs, 0, 0, |rig| rig.steps(count)).unwrap_or(REFUSED)
 }
 
 #[unsafe(no_mangle)]
@@ -36,7 +34,12 @@ pub extern "C" fn lundzavar_jump(
     rows: u32,
     count: u32,
 ) -> u64 {
-    answered(on_player(heap, file, readings, rows, 0, Task::Jump(count)))
+    let inputs = Inputs {
+        file,
+        readings,
+        rows,
+    };
+    on_player(heap, inputs, 0, 0, |rig| rig.jump(count)).unwrap_or(REFUSED)
 }
 
 #[unsafe(no_mangle)]
@@ -48,14 +51,12 @@ pub extern "C" fn lundzavar_jumps(
     count: u32,
     seed: u64,
 ) -> u64 {
-    answered(on_player(
-        heap,
+    let inputs = Inputs {
         file,
         readings,
         rows,
-        KEYFRAMES,
-        Task::Jumps(count, seed),
-    ))
+    };
+    on_player(heap, inputs, KEYFRAMES, seed, |rig| rig.jumps(count)).unwrap_or(REFUSED)
 }
 
 #[unsafe(no_mangle)]
@@ -67,14 +68,12 @@ pub extern "C" fn lundzavar_rework(
     count: u32,
     seed: u64,
 ) -> u64 {
-    answered(on_player(
-        heap,
+    let inputs = Inputs {
         file,
         readings,
         rows,
-        KEYFRAMES,
-        Task::Rework(count, seed),
-    ))
+    };
+    on_player(heap, inputs, KEYFRAMES, seed, |rig| rig.rework(count)).unwrap_or(REFUSED)
 }
 
 #[unsafe(no_mangle)]
@@ -86,20 +85,25 @@ pub extern "C" fn lundzavar_standing(
     count: u32,
     seed: u64,
 ) -> u64 {
-    answered(on_player(heap, file, readings, rows, 0, Task::Standing(count, seed)))
+    let inputs = Inputs {
+        file,
+        readings,
+        rows,
+    };
+    on_player(heap, inputs, 0, seed, |rig| rig.standing(count)).unwrap_or(REFUSED)
 }
 
 #[unsafe(no_mangle)]
 pub extern "C" fn lundzavar_read(heap: Global, file: &[u8], count: u32) -> u64 {
-    answered(read_often(heap, file, count))
+    read_often(heap, file, count).unwrap_or(REFUSED)
 }
 
 #[unsafe(no_mangle)]
 pub extern "C" fn lundzavar_load(heap: Global, file: &[u8], count: u32) -> u64 {
-    answered(load_often(heap, file, count))
+    load_often(heap, file, count).unwrap_or(REFUSED)
 }
 
 #[unsafe(no_mangle)]
 pub extern "C" fn lundzavar_write(heap: Global, file: &[u8], count: u32) -> u64 {
-    answered(write_often(heap, file, count))
+    write_often(heap, file, count).unwrap_or(REFUSED)
 }

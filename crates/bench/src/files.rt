@@ -1,6 +1,5 @@
 // Work on files.
 use crate::checksum::Checksum;
-use crate::stop::Stop;
 use draft::{Draft, Source, read_draft};
 use packed::{load, write_draft};
 use plant::Plant;
@@ -31,38 +30,38 @@ fn add_draft(draft: &Draft, sum: &mut Checksum) {
 }
 
 // The checksum of the file's draft, read so many times.
-pub(crate) fn read_often(heap: Global, file: &[u8], count: u32) -> Result<u64, Stop> {
+pub(crate) fn read_often(heap: Global, file: &[u8], count: u32) -> Option<u64> {
     let mut sum = Checksum::new();
     for _ in 0..count {
-        let draft = read_draft(heap, file)?;
+        let draft = read_draft(heap, file).ok()?;
         add_draft(&draft, &mut sum);
     }
-    Ok(sum.total())
+    Some(sum.total())
 }
 
 // The checksum of the file's drawing, loaded so many times.
-pub(crate) fn load_often(heap: Global, file: &[u8], count: u32) -> Result<u64, Stop> {
+pub(crate) fn load_often(heap: Global, file: &[u8], count: u32) -> Option<u64> {
     let mut sum = Checksum::new();
     for _ in 0..count {
-        let drawing = load(heap, &Plant, file)?;
+        let drawing = load(heap, &Plant, file).ok()?;
         for block in drawing.order() {
             sum.add(*block as u64);
         }
     }
-    Ok(sum.total())
+    Some(sum.total())
 }
 
 // The checksum of what is written for the file's draft, so many times into the same memory.
-pub(crate) fn write_often(heap: Global, file: &[u8], count: u32) -> Result<u64, Stop> {
-    let draft = read_draft(heap, file)?;
-    let mut memory = vec![in heap; 0u8; 2048]?;
+pub(crate) fn write_often(heap: Global, file: &[u8], count: u32) -> Option<u64> {
+    let draft = read_draft(heap, file).ok()?;
+    let mut memory = vec![in heap; 0u8; 2048].ok()?;
     let mut sum = Checksum::new();
     for _ in 0..count {
-        let length = write_draft(&draft, memory.as_mut_slice())?;
+        let length = write_draft(&draft, memory.as_mut_slice()).ok()?;
         sum.add(length as u64);
     }
     for byte in memory.as_slice() {
         sum.add(u64::from(*byte));
     }
-    Ok(sum.total())
+    Some(sum.total())
 }

@@ -7,7 +7,6 @@ mod dice;
 mod exports;
 mod files;
 mod readings;
-mod stop;
 mod tasks;
 
 pub use exports::{

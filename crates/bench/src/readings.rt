@@ -21,8 +21,8 @@ pub(crate) fn cells_of(
         return Ok(cells);
     }
     let (words, _) = bytes.as_chunks::<4>();
-    for (i, word) in words.iter().enumerate() {
-        cells.push(cell_of(types[i % types.len()], u32::from_le_bytes(*word)))?;
+    for (word, value_type) in words.iter().zip(types.iter().cycle()) {
+        cells.push(cell_of(*value_type, u32::from_le_bytes(*word)))?;
     }
     Ok(cells)
 }

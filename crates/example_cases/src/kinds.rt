@@ -2,7 +2,6 @@
 use blocks::BlockLibrary;
 use plant::Plant;
 use std::io;
-use text::Printed;
 use values::{State, Value};
 
 fn show_out(
@@ -12,7 +11,7 @@ fn show_out(
     params: &[Value],
     inputs: &[Value],
 ) -> io::Result<()> {
-    let value = Printed(Plant.out(kind, params, State::IDLE, inputs));
+    let value = Plant.out(kind, params, State::IDLE, inputs);
     println!(rt; "{label}: {value}")
 }
 
@@ -23,7 +22,7 @@ fn show_on_delay(rt: &HostRuntime, delay: i16, inputs: &[bool]) -> io::Result<()
     print!(rt; "ONDT {delay}:")?;
     for on in inputs {
         let input = [Value::Binary(*on)];
-        let value = Printed(Plant.out(15, &params, state, &input));
+        let value = Plant.out(15, &params, state, &input);
         print!(rt; " {value}")?;
         state = Plant.next(15, &params, state, &input);
     }

@@ -1,35 +1,18 @@
 // Runs of the demonstration drawing.
 use crate::files::DEMONSTRATION;
 use drawing::Drawing;
+use faults::Report;
 use keyframes::{Lent, TableStore};
 use marks::MarkTable;
 use ordered::Entry;
 use packed::{LoadError, load};
 use plant::Plant;
-use player::{Answer, Player};
+use player::Player;
 use runs::{Call, EmptyHand, Halt, rehearse};
 use sheet::{Columns, Sheet};
 use std::alloc::AllocError;
 use std::io;
-use text::{Printed, Told};
-use values::{Cell, PackedState, Row, Value, ValueType};
-
-fn show_answer(rt: &HostRuntime, answer: Answer) -> io::Result<()> {
-    match answer {
-        Answer::Worked(n) => print!(rt; " worked {n}"),
-        Answer::Slip(n) => print!(rt; " slip {n}"),
-        Answer::Value(v) => {
-            let value = Printed(v);
-            print!(rt; " {value}")
-        }
-        Answer::Count(n) => print!(rt; " count {n}"),
-        Answer::Refused(fault) => {
-            let told = Told(fault.report());
-            print!(rt; " {told}")
-        }
-        Answer::NoSlip => print!(rt; " no slip in hand"),
-    }
-}
+use values::{Cell, Row, Value, ValueType};
 
 fn demonstration(rt: &HostRuntime) -> io::Result<Drawing> {
     match load(rt.alloc(), &Plant, &DEMONSTRATION) {
@@ -43,21 +26,14 @@ fn demonstration(rt: &HostRuntime) -> io::Result<Drawing> {
 fn show_run(rt: &HostRuntime, label: &str, calls: &[Call], last: usize) -> io::Result<()> {
     let heap = rt.alloc();
     let mut cells = [Cell::Whole(0); 100];
-    for cell in cells.iter_mut().take(40) {
-        *cell = Cell::Whole(1);
-    }
-    let columns = match Columns::new(&[ValueType::Whole]) {
-        Ok(columns) => columns,
-        Err(_) => return Err(io::Error::from(io::ErrorKind::InvalidData)),
-    };
+    cells[..40].fill(Cell::Whole(1));
+    let columns = Columns::new(&[ValueType::Whole]).map_err(|_| io::Error::from(
+        io::ErrorKind::InvalidData,
+    ))?;
     let mut sheet = Sheet::new(columns, 100, &cells);
-    let idle = PackedState {
-        cell: Cell::Binary(false),
-        count: 0,
-    };
     let blank = Entry {
         key: 0u32,
-        value: Row { states: [idle; 64] },
+        value: Row::blank(),
     };
     let mut memory = vec![in heap; blank; 8]?;
     let mut table = TableStore::new(memory.as_mut_slice());
@@ -77,14 +53,14 @@ fn show_run(rt: &HostRuntime, label: &str, calls: &[Call], last: usize) -> io::R
     ) {
         Ok(()) => (),
         Err(Halt::Refused(unopened)) => {
-            let told = Told(unopened.fault.report());
-            return println!(rt; "{label}: {told}");
+            let report = Report::from(unopened.fault);
+            return println!(rt; "{label}: {report}");
         }
         Err(Halt::NoMemory(_)) => return Err(io::Error::from(AllocError)),
     }
     print!(rt; "{label}:")?;
     for answer in answers.iter().skip(calls.len().saturating_sub(last)) {
-        show_answer(rt, *answer)?;
+        print!(rt; " {answer}")?;
     }
     println!(rt; "")
 }
