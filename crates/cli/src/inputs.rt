@@ -1,9 +1,10 @@
 // The drawing and the sheet that a program is given.
-ghost use Rattle.std.specs.Prelude.{◌≡◌, ℕ, List, Ok, IfOk};
+ghost use Rattle.std.specs.Prelude.{◌≡◌, ℕ, ◌<◌, ◌⊎◌, List, length, Err, IfOk, MatchResult};
+ghost use Rattle.faults.specs.declared.fault.Fault.TheVariants.{SheetSize};
 ghost use Rattle.plant.specs.Plant.{plant};
 ghost use Rattle.packed.specs.Load.{Loads};
 ghost use Rattle.sheet.specs.Held.{types_of};
-ghost use Rattle.sheet.specs.Memory.{Passes};
+ghost use Rattle.sheet.specs.Memory.{Passes, Tested};
 
 use crate::stop::{Stop, unreadable};
 use drawing::Drawing;
@@ -42,7 +43,7 @@ fn read_file(rt: &HostRuntime, path: String) -> Result<SheetFile, Stop> {
 
 // The columns of a file that a sheet can be made of, or the first misfit.
 fn tested(types: &[ValueType], rows: u32, cells: &[Cell]) -> Result<Columns, Fault>
-    ensures { IfOk result (λ columns. (types_of columns ≡ types.now) × Passes types.now rows cells.now) }
+    ensures { MatchResult result (λ columns. (types_of columns ≡ types.now) × Passes types.now rows cells.now) (λ fault. ((8 < length types.now) × (fault ≡ SheetSize)) ⊎ Tested types.now rows cells.now (Err fault)) }
 {
     let columns = Columns::new(types)?;
     Sheet::test(&columns, rows, cells)?;
