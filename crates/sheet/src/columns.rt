@@ -1,14 +1,15 @@
 // The columns of a sheet.
-ghost use Rattle.std.specs.Prelude.{◌≤◌, length};
+ghost use Rattle.std.specs.Prelude.{◌≡◌, ◌≤◌, length};
 
-use arrayvec::ArrayVec;
 use values::ValueType;
 
 mod types;
 
-// The types of at most eight columns.
-#[derive(Drop)]
+// The types of at most eight columns: plain memory, since columns are copied.
+#[derive(Clone, Copy)]
 pub struct Columns {
-    types: ArrayVec<ValueType, 8>,
-    ghost few: { length types.items ≤ 8 },
+    types: [ValueType; 8],
+    len: usize,
+    ghost whole: { length types ≡ 8 },
+    ghost few: { len ≤ 8 },
 }

@@ -1,11 +1,15 @@
 // The standing cells of one cycle.
-use arrayvec::ArrayVec;
+ghost use Rattle.std.specs.Prelude.{◌≡◌, ◌≤◌, length};
+
 use values::Cell;
 
 mod cells;
 
-// A cell for each column.
-#[derive(Drop)]
+// A cell for each column: plain memory, since a reading is copied.
+#[derive(Clone, Copy)]
 pub struct Reading {
-    cells: ArrayVec<Cell, 8>,
+    cells: [Cell; 8],
+    len: usize,
+    ghost whole: { length cells ≡ 8 },
+    ghost few: { len ≤ 8 },
 }

@@ -6,7 +6,6 @@ ghost use Rattle.sheet.specs.Held.{types_of};
 ghost use Rattle.sheet.specs.Calls.{MadeColumns};
 
 use super::Columns;
-use arrayvec::ArrayVec;
 use faults::Fault;
 use values::ValueType;
 
@@ -14,35 +13,48 @@ impl Columns {
     pub fn new(types: &[ValueType]) -> Result<Columns, Fault>
         ensures { MadeColumns types.now result }
     {
-        let types = ArrayVec::try_from(types).map_err(|_| Fault::SheetSize)?;
-        Ok(Columns { types })
+        let len = types.len();
+        if len > 8 {
+            return Err(Fault::SheetSize);
+        }
+        let mut all = [ValueType::Binary; 8];
+        all[..len].copy_from_slice(types);
+        Ok(Columns { types: all, len })
     }
 
     pub(crate) fn none() -> Columns
         ensures { types_of result ≡ [] }
     {
         Columns {
-            types: ArrayVec::new(),
+            types: [ValueType::Binary; 8],
+            len: 0,
         }
+    }
+
+    fn as_slice(&self) -> &[ValueType]
+        ensures { result.now ≡ types_of self.now }
+    {
+        &self.types[..self.len]
     }
 
     pub fn len(&self) -> usize
         ensures { result ≡ length (types_of self.now) }
     {
-        self.types.len()
+        self.len
     }
 
     pub fn get(&self, column: u32) -> Option<ValueType>
         ensures { result ≡ slice_get (types_of self.now) column }
     {
-        self.types.as_slice().get(column as usize).copied()
+        self.as_slice().get(column as usize).copied()
     }
 
     // Whether these are the types of the columns.
+    #[tactic(auto, using(crate::proofs::Matching::types_are))]
     pub fn same(&self, types: &[ValueType]) -> bool
         ensures { Decides result (types_of self.now ≡ types.now) }
     {
-        self.types.as_slice() == types
+        self.as_slice() == types
     }
 
     // The type of a column, and binary where there is none.

@@ -23,6 +23,6 @@ impl WriteList {
             row.give(write.column, write.cell);
             at = previous;
         }
-        Reading::new(row.into_cells())
+        row.into_row()
     }
 }

@@ -9,7 +9,6 @@ ghost use Rattle.sheet.specs.Laws.{FitRow};
 use super::Sheet;
 use crate::columns::Columns;
 use crate::reading::Reading;
-use arrayvec::ArrayVec;
 
 impl Sheet<'_> {
     pub fn rows(&self) -> u32
@@ -30,7 +29,7 @@ impl Sheet<'_> {
         ensures fits { cycle < (page self.now).rows → FitRow (page self.now).columns (map value_of (cells_of result)) }
     {
         if cycle >= self.rows {
-            return Reading::new(ArrayVec::new());
+            return Reading::new(&[]);
         }
         let width = self.columns.len();
         let start = cycle as usize * width;

@@ -16,7 +16,7 @@ returns-then-cycle-self c =
     let width = length (types_of s.columns) in
     let past : length s.cells.now ≤ cycle * width = omega (arith, s.filled, mul-le s.rows width cycle width c.if-cycle-self.true (omega arith)) in
     record {
-      values = ap (map value_of) (c.new-then-cycle-self.ensures ∙ c.new.ensures) ∙ row_past (page s) cycle past;
+      values = ap (map value_of) c.new.ensures ∙ row_past (page s) cycle past;
       fits = λ l. absurd (omega (arith, l, c.if-cycle-self.true));
     }
 
