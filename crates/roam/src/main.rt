@@ -13,7 +13,7 @@ use marks::MarkTable;
 use ordered::{Entry, Name};
 use plant::Plant;
 use player::Player;
-use runs::{Call, EmptyHand, Halt, rehearse};
+use runs::{EmptyHand, Halt, rehearse};
 use script::{Script, read_script};
 use sheet::Sheet;
 use std::io;
@@ -49,15 +49,14 @@ fn play_on<S: KeyframeStore + Drop>(
         let _ = marks.put(mark.name, mark.cycle);
     }
     let mut player = Player::new(heap, Plant, store)?;
-    let calls: Vec<Call> = script.lines.iter().map(|line| line.call).collect(heap)?;
-    let mut answers = Vec::with_capacity(heap, calls.len())?;
-    let hand = EmptyHand::with_room(heap, calls.len())?;
+    let mut answers = Vec::with_capacity(heap, script.calls.len())?;
+    let hand = EmptyHand::with_room(heap, script.calls.len())?;
     match rehearse(
         &mut player,
         drawing,
         sheet,
         &marks,
-        &calls,
+        &script.calls,
         &mut answers,
         hand,
     ) {

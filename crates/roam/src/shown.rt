@@ -17,8 +17,7 @@ pub fn show_all<L: BlockLibrary, S: KeyframeStore>(
     let columns = player.drawing().columns().len();
     let rows = player.rows();
     println!(rt; "opened: {blocks} blocks, {columns} columns, {rows} rows")?;
-    for (line, answer) in script.lines.iter().zip(answers) {
-        let words = &line.words;
+    for (words, answer) in script.words.iter().zip(answers) {
         println!(rt; "{words}: {answer}")?;
     }
     let playhead = player.playhead();

@@ -3,4 +3,4 @@
 
 mod script;
 
-pub use script::{Line, Mark, Script, ScriptError, ScriptFault, read_script};
+pub use script::{Mark, Script, ScriptError, ScriptFault, read_script};

@@ -14,18 +14,13 @@ pub struct Mark {
     pub cycle: u32,
 }
 
-// A call with its words, joined by single spaces.
-#[derive(Drop)]
-pub struct Line {
-    pub words: String,
-    pub call: Call,
-}
-
-// What a script asks for.
+// What a script asks for; `words` has each call's words, joined by single spaces. They lie beside the calls, since a run
+// takes its calls as a slice, and with calls among the words it would hold each call twice.
 #[derive(Drop)]
 pub struct Script {
     pub marks: Vec<Mark>,
-    pub lines: Vec<Line>,
+    pub calls: Vec<Call>,
+    pub words: Vec<String>,
 }
 
 #[derive(Clone, Copy, PartialEq, Eq, Debug)]
@@ -152,12 +147,12 @@ fn read_line(
     if words.is_empty() {
         return Ok(());
     }
-    let begun = !script.lines.is_empty();
+    let begun = !script.calls.is_empty();
     match read_words(columns, begun, &words).map_err(|fault| AtLine { line, fault })? {
         Asked::Mark(mark) => Ok(script.marks.push(mark)?),
         Asked::Call(call) => {
-            let words = words.join(heap, " ")?;
-            Ok(script.lines.push(Line { words, call })?)
+            script.words.push(words.join(heap, " ")?)?;
+            Ok(script.calls.push(call)?)
         }
     }
 }
@@ -166,7 +161,8 @@ fn read_line(
 pub fn read_script(heap: Global, text: &str, columns: &[ValueType]) -> Result<Script, ScriptError> {
     let mut script = Script {
         marks: Vec::new(heap),
-        lines: Vec::new(heap),
+        calls: Vec::new(heap),
+        words: Vec::new(heap),
     };
     for (i, line) in text.lines().enumerate() {
         if !line.starts_with('#') {
