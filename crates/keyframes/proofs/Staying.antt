@@ -54,8 +54,8 @@ right_stays = record {
 }
 
 -- one cycle more, with what it is reached by
-pub visited : (rows : ℕ → Row) (from c n : ℕ) (f g h : Frames) (row : Row) → Keeps g n row h → n ≡ suc c → rows n ≡ row
-    → Visits rows from f c g → Visits rows from f n h
-visited rows from c n f g h row k e same v =
-    let k' : Keeps g n (rows n) h = subst (λ r. Keeps g n r h) (sym same) k in
-    subst (λ m. Visits rows from f m h) (sym e) (next v (subst (λ m. Keeps g m (rows m) h) e k'))
+pub visited : {f g : Frames} {n : ℕ} {row : Row} → Keeps f n row g → (rows : ℕ → Row) (from c : ℕ) (h : Frames) → n ≡ suc c → rows n ≡ row
+    → Visits rows from h c f → Visits rows from h n g
+visited {f} {g} {n} {row} k rows from c h e same v =
+    let k' : Keeps f n (rows n) g = subst (λ r. Keeps f n r g) (sym same) k in
+    subst (λ m. Visits rows from h m g) (sym e) (next v (subst (λ m. Keeps f m (rows m) g) e k'))
