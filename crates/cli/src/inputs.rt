@@ -46,7 +46,7 @@ fn tested(types: &[ValueType], rows: u32, cells: &[Cell]) -> Result<Columns, Fau
     ensures { MatchResult result (λ columns. (types_of columns ≡ types.now) × Passes types.now rows cells.now) (λ fault. ((8 < length types.now) × (fault ≡ SheetSize)) ⊎ Tested types.now rows cells.now (Err fault)) }
 {
     let columns = Columns::new(types)?;
-    Sheet::test(&columns, rows, cells)?;
+    Sheet::test(columns, rows, cells)?;
     Ok(columns)
 }
 

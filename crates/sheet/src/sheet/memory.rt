@@ -42,13 +42,13 @@ fn all_fit(columns: &Columns, cells: &[Cell]) -> Result<(), Fault>
 
 impl Sheet<'_> {
     // Whether memory makes a sheet of these columns and rows.
-    pub fn test(columns: &Columns, rows: u32, cells: &[Cell]) -> Result<(), Fault>
-        ensures { Tested (types_of columns.now) rows cells.now result }
+    pub fn test(columns: Columns, rows: u32, cells: &[Cell]) -> Result<(), Fault>
+        ensures { Tested (types_of columns) rows cells.now result }
     {
         if rows == 0 || rows > 4096 || cells.len() != rows as usize * columns.len() {
             return Err(Fault::SheetSize);
         }
-        all_fit(columns, cells)
+        all_fit(&columns, cells)
     }
 }
 
@@ -58,7 +58,7 @@ impl<'a> Sheet<'a> {
         ensures { Makes (types_of columns) rows cells.now (page result) }
     {
         let none: &[Cell] = &[];
-        let (columns, rows, cells) = match Sheet::test(&columns, rows, cells) {
+        let (columns, rows, cells) = match Sheet::test(columns, rows, cells) {
             Ok(()) => (columns, rows, cells),
             Err(_) => (Columns::none(), 0, none),
         };

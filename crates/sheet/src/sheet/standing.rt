@@ -17,10 +17,10 @@ impl Sheet<'_> {
         self.rows
     }
 
-    pub fn columns(&self) -> &Columns
-        ensures { types_of result.now ≡ (page self.now).columns }
+    pub fn columns(&self) -> Columns
+        ensures { types_of result ≡ (page self.now).columns }
     {
-        &self.columns
+        self.columns
     }
 
     // The standing cells of a cycle, and none past the last row.
